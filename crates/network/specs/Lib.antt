@@ -1,0 +1,4 @@
+pub mod Net
+pub mod Layouts
+pub mod Nets
+pub mod Scans
