@@ -1,0 +1,6 @@
+use Rattle.newell.proofs.Carried.{opening-starts, booking-carries, step-carries, idle-carries, link-tells}
+use Rattle.newell.proofs.Safety.{reached-safe}
+use Rattle.newell.proofs.calls_carry.Needs as need
+
+pub returns : need.returns
+returns c = record { opening = opening-starts; booking = booking-carries; stepping = step-carries; idle = idle-carries; link = link-tells; safe = reached-safe }
