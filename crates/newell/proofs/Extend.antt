@@ -125,8 +125,7 @@ module _ (net : Net) (sound : Sound net) (c d : Curves) where
   answers-same h (ask-link i (refused k)) g p = p
   answers-same h (ask-entrance e (told s)) g p = tail (λ f j en. f j en ∙ ap length (wait-same (booked h (clock h) e) e j (clock h) en g)) p
   answers-same h (ask-entrance e (refused k)) g p = p
-  answers-same h (ask-exit x (told s)) g p = tail (λ f i ex. f i ex ∙ g (clock h) i (omega arith) (entered net x i (subst (In i) (sym (ex .0)) (inl refl)) .0) .1) p
-  answers-same h (ask-exit x (refused k)) g p = p
+  answers-same h (ask-exit x r) g p = p
 
   shorter : (event : Event) (h : History) → clock h ≤ clock (event ∷ h)
   shorter (book e x n r) h = omega arith

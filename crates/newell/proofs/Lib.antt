@@ -14,3 +14,4 @@ pub mod Corridor
 pub mod Diverge
 pub mod Asking
 pub mod Safety
+pub mod Telling

@@ -1,5 +1,6 @@
 -- The promise, at each moment of a run.
 use Rattle.newell.specs.declared.records.Vehicle.{Vehicle}
+use Rattle.newell.specs.declared.records.StepRow.{StepRow}
 use mathlib.Core.Path.{_≡_, refl, sym, ap, ap₂, _∙_, subst, fun-ext}
 use mathlib.Core.List.{List, [], _∷_, _++_, map}
 use mathlib.Core.Bool.{Bool, true, false, cond, _&&_}
@@ -24,15 +25,15 @@ use Rattle.merge.specs.Rules.{Meaning}
 use Rattle.newell.specs.Plain.{Curves, U, V, on, waiting, leavers}
 use Rattle.newell.proofs.Timeline.{Timeline}
 use Rattle.newell.specs.Promise.{Opens}
-use Rattle.newell.specs.History.{History, Event, book, step, ask-link, ask-entrance, ask-exit, Reply, told, refused, clock, booked, bookedFor, handed, final, travelled, travel, Answers, Follows}
+use Rattle.newell.specs.History.{History, Event, book, step, ask-link, ask-entrance, ask-exit, Reply, told, refused, clock, booked, bookedFor, goneBy, blank, handed, final, travelled, travel, Answers, Follows}
 use Rattle.newell.specs.Promise.{named, Empty, inRun, Unbooked, Conserved, Kept, Clears, Travels, Promise, At-each-moment}
-use Rattle.network.proofs.Places.{In, only, leaves, leftFrom}
-use Rattle.newell.proofs.Bounds.{out, V-le-U, U-mono, storage, capacity-in, capacity-out, free-over, since, earlier}
+use Rattle.network.proofs.Places.{In, only, leaves, leftFrom, entered}
+use Rattle.newell.proofs.Bounds.{out, V-le-U, U-mono, V-mono, storage, capacity-in, capacity-out, free-over, since, earlier}
 use Rattle.newell.proofs.Totals.{total, total-two, total-none, total-one}
 use Rattle.newell.proofs.Weights.{next-leaves, waits, drives}
 use Rattle.newell.proofs.Account.{ever, for, conserved}
 use Rattle.newell.proofs.Clearing.{clearing}
-use Rattle.newell.proofs.Timeline.{booked-late, passed, timeline}
+use Rattle.newell.proofs.Timeline.{booked-late, passed, stepped, timeline}
 
 -- a walk has no more links than there are nodes
 walk-bound : (net : Net) (sound : Sound net) (x : ℕ) {i n : ℕ} → Walk net x i n → i < net .links → n + net .link i .from ≤ net .nodes
@@ -84,11 +85,29 @@ booked-sum net c (ask-link i r ∷ h) f x t l = booked-sum net c h (f .0) x t l
 booked-sum net c (ask-entrance e r ∷ h) f x t l = booked-sum net c h (f .0) x t l
 booked-sum net c (ask-exit y r ∷ h) f x t l = booked-sum net c h (f .0) x t l
 
-pub is-conserved : (net : Net) → Sound net → (h : History) (c : Curves) → Follows net c h → Conserved net c h
+-- those gone are those that left
+pub gone-left : (net : Net) (sound : Sound net) (c : Curves) (h : History) → Follows net c h → (i : ℕ) → i < net .links → goneBy h i ≡ V net c i (clock h)
+gone-left net sound c [] f i k = sym (f .left i k)
+gone-left net sound c (book e x n r ∷ h) f i k = gone-left net sound c h (f .0) i k
+gone-left net sound c (step m rows (told u) m′ rows′ ∷ h) f i k =
+    let row : getD rows′ i blank .left ≡ V net c i (clock h + 1) - V net c i (clock h) = ap (λ (z : StepRow). z .left) (stepped net c h m rows u m′ rows′ (f .1) .1 .filled i blank k) in
+    let rises = V-mono net sound c (clock h + 1) (booked h) (handed (step m rows (told u) m′ rows′ ∷ h)) (timeline net c (step m rows (told u) m′ rows′ ∷ h) f) i (clock h) (clock h + 1) k (omega arith) (omega arith) in
+    omega (arith, gone-left net sound c h (f .0) i k, row, rises)
+gone-left net sound c (step m rows (refused q) m′ rows′ ∷ h) f i k = gone-left net sound c h (f .0) i k
+gone-left net sound c (ask-link n r ∷ h) f i k = gone-left net sound c h (f .0) i k
+gone-left net sound c (ask-entrance e r ∷ h) f i k = gone-left net sound c h (f .0) i k
+gone-left net sound c (ask-exit x r ∷ h) f i k = gone-left net sound c h (f .0) i k
+
+pub is-conserved : (net : Net) → Sound net → (h : History) (c : Curves) → Follows net c h → (x g : ℕ) → Exit net x g → Conserved net c h x g
 unfolding waits drives ever
 is-conserved net sound h c f x g ex =
-    sym (conserved net sound c (clock h) (booked h) (handed h) (timeline net c h f) (net .nodes) (served-bound net sound) x g ex (clock h) (omega arith))
-    ∙ booked-sum net c h f x (clock h) (omega arith)
+    let gone = gone-left net sound c h f g (entered net x g (subst (In g) (sym (ex .0)) (inl refl)) .0) in
+    record {
+      sum = ap (λ n. waits net c (for x) (booked h (clock h)) (clock h) + drives net c (for x) (clock h) + n) gone
+          ∙ sym (conserved net sound c (clock h) (booked h) (handed h) (timeline net c h f) (net .nodes) (served-bound net sound) x g ex (clock h) (omega arith))
+          ∙ booked-sum net c h f x (clock h) (omega arith);
+      gone = gone;
+    }
 
 -- the last of a list by its place
 final-at : {X : Type 0} (xs : List X) (n : ℕ) (d : X) → length xs ≡ suc n → final xs ≡ Some (getD xs n d)

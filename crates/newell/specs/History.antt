@@ -78,6 +78,20 @@ bookedFor (ask-link i r ∷ h) x = bookedFor h x
 bookedFor (ask-entrance e r ∷ h) x = bookedFor h x
 bookedFor (ask-exit x′ r ∷ h) x = bookedFor h x
 
+-- a row that tells of nobody
+abbrev pub blank : StepRow
+blank = record { came = 0; left = 0; travel = None }
+
+-- those gone over the link i: the sum of what left it, in the rows that accepted steps left
+abbrev pub goneBy : History → ℕ → ℕ
+goneBy [] i = 0
+goneBy (book e x n r ∷ h) i = goneBy h i
+goneBy (step m rows (told u) m′ rows′ ∷ h) i = goneBy h i + getD rows′ i blank .left
+goneBy (step m rows (refused k) m′ rows′ ∷ h) i = goneBy h i
+goneBy (ask-link i′ r ∷ h) i = goneBy h i
+goneBy (ask-entrance e r ∷ h) i = goneBy h i
+goneBy (ask-exit x r ∷ h) i = goneBy h i
+
 -- the meaning of the rule handed in at the accepted step from the clock t
 abbrev pub handed : History → ℕ → Meaning
 handed [] t = record { limits = λ n k. (0, 0); splits = λ n asked q. (0, 0) }
@@ -153,7 +167,7 @@ module _ (net : Net) (c : Curves) where
   Answers h (ask-link n r) = Checked ((38, ((1 ≤ n) × (n ≤ net .links))) ∷ []) (λ s. s ≡ stateOf (n - 1) (clock h)) r
   Answers h (ask-entrance e r) = Checked ((32, ((j : ℕ) × Entrance net e j)) ∷ [])
       (λ k. (j : ℕ) → Entrance net e j → k ≡ length (waiting net c (booked h (clock h) e) j (clock h))) r
-  Answers h (ask-exit x r) = Checked ((33, ((i : ℕ) × Exit net x i)) ∷ []) (λ k. (i : ℕ) → Exit net x i → k ≡ V net c i (clock h)) r
+  Answers h (ask-exit x r) = Checked ((33, ((i : ℕ) × Exit net x i)) ∷ []) (λ k. (i : ℕ) → Exit net x i → k ≡ goneBy h i) r
 
   -- These curves are the plain run's, at the clocks up to now, for the calls so far.
   pub record New : Type 0 where

@@ -166,6 +166,28 @@ stateNow net r i = record {
 abbrev pub Link-tells : Type 0
 Link-tells = (net : Net) (r : RunNow) (i : ℕ) → i < net .links → Carries net r (ask-link (i + 1) (told (stateNow net r i))) r
 
+-- those that wait for the entrance's link
+abbrev pub Entrance-tells : Type 0
+Entrance-tells = (net : Net) (r : RunNow) (e j : ℕ) → Entrance net e j → Carries net r (ask-entrance e (told (length (r .queue j)))) r
+
+-- those that have left the exit's entering link
+abbrev pub Exit-tells : Type 0
+Exit-tells = (net : Net) (r : RunNow) (x i : ℕ) → Exit net x i → Carries net r (ask-exit x (told (r .link i .offs 0))) r
+
+-- Calls one after another, the last first: each carries on from what the run then holds.
+abbrev pub Ran : Net → RunNow → History → RunNow → Type 0
+Ran net r [] r′ = r ≡ r′
+Ran net r (event ∷ h) r″ = (r′ : RunNow) × Ran net r h r′ × Carries net r′ event r″
+
+-- so the plain run goes on along with them all,
+abbrev pub Ran-carries : Type 0
+Ran-carries = (net : Net) (r r′ : RunNow) (later h : History) → Ran net r later r′ → Moment net h r → Moment net (later ++ h) r′
+
+-- and from opening on the promise holds at each moment: ahead of the first call, between two, and behind the last
+abbrev pub Each-moment : Type 0
+Each-moment = (net : Net) → Sound net → (r r″ : RunNow) → Opened net r → (later h : History) → Ran net r (later ++ h) r″
+    → (r′ : RunNow) × Moment net h r′ × Ran net r′ later r″
+
 -- what code may count on: no difference of a step falls below 0, no line is over its part, no number is large
 pub record SafeLink (net : Net) (r : RunNow) (i : ℕ) : Type 0 where
   pub sending : r .link i .offs 0 ≤ r .link i .ons (net .link i .free - 1)

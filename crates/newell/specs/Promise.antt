@@ -12,7 +12,7 @@ use Rattle.std.specs.shelf.Lists.{All, sumBy}
 use Rattle.network.specs.Net.{Net, Sound, Exit, MostLinks, LongestSteps, entering, leaving}
 use Rattle.merge.specs.Rules.{Meaning}
 use Rattle.newell.specs.Plain.{Curves, U, V, on, waiting, leavers}
-use Rattle.newell.specs.History.{History, Event, book, step, ask-link, ask-entrance, ask-exit, Reply, told, refused, call, clock, booked, bookedFor, handed, travel, Follows}
+use Rattle.newell.specs.History.{History, Event, book, step, ask-link, ask-entrance, ask-exit, Reply, told, refused, call, clock, booked, bookedFor, goneBy, handed, travel, Follows}
 
 -- a sum over the places below n
 abbrev pub total : ℕ → (ℕ → ℕ) → ℕ
@@ -56,10 +56,11 @@ Unbooked (ask-entrance e r ∷ h) = Unbooked h
 Unbooked (ask-exit x r ∷ h) = Unbooked h
 
 module _ (net : Net) (c : Curves) (h : History) where
-  -- For each exit, vehicles waiting, on links and gone come to those booked for it.
-  abbrev pub Conserved : Type 0
-  Conserved = (x g : ℕ) → Exit net x g
-      → waitingFor net c (booked h (clock h)) x (clock h) + drivingFor net c (booked h (clock h)) x (clock h) + V net c g (clock h) ≡ bookedFor h x
+  -- For the exit x with its entering link g: those waiting, on links and gone come to those booked for it. Both ends of the sum are of the
+  -- accepted calls' own numbers. Those gone are those that left the link g.
+  pub record Conserved (x g : ℕ) : Type 0 where
+    pub sum : waitingFor net c (booked h (clock h)) x (clock h) + drivingFor net c (booked h (clock h)) x (clock h) + goneBy h g ≡ bookedFor h x
+    pub gone : goneBy h g ≡ V net c g (clock h)
 
   -- No link holds more than its jam storage, or passed more than its capacity at either end in a step. Vehicles left it in the order they came on, None before
   -- its free steps were over.
@@ -84,7 +85,7 @@ module _ (net : Net) (c : Curves) (h : History) where
         → (z : ℕ) × (travel net c i t ≡ Some (t + 1 - z)) × (V net c i (t + 1) ≤ U net c i z) × ((s : ℕ) → s < z → U net c i s < V net c i (t + 1))
 
   pub record Promise : Type 0 where
-    pub conserved : Conserved
+    pub conserved : (x g : ℕ) → Exit net x g → Conserved x g
     pub kept : (i : ℕ) → i < net .links → Kept i
     pub clears : Clears
     pub travels : (i t : ℕ) → i < net .links → t < clock h → Travels i t

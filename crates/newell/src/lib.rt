@@ -1,7 +1,7 @@
 // The law of the plain run, the histories of calls, and what is promised of every run: theorems, and the records that
 // they share with the code.
 ghost use Rattle.newell.specs.Promise.{At-each-moment, One-plain-run};
-ghost use Rattle.newell.specs.Now.{Step-carries, Booking-carries, Opening-starts, Idle-carries, Link-tells, Reached-safe};
+ghost use Rattle.newell.specs.Now.{Step-carries, Booking-carries, Opening-starts, Idle-carries, Link-tells, Entrance-tells, Exit-tells, Ran-carries, Each-moment, Reached-safe};
 
 // The theorem: what holds of a run at each moment.
 pub fn promise_holds() -> u8
@@ -24,6 +24,10 @@ pub fn calls_carry() -> u8
     ensures stepping { λ _. ⌜ Step-carries ⌝ }
     ensures idle { λ _. ⌜ Idle-carries ⌝ }
     ensures link { λ _. ⌜ Link-tells ⌝ }
+    ensures entrance { λ _. ⌜ Entrance-tells ⌝ }
+    ensures exit { λ _. ⌜ Exit-tells ⌝ }
+    ensures one_by_one { λ _. ⌜ Ran-carries ⌝ }
+    ensures moments { λ _. ⌜ Each-moment ⌝ }
     ensures safe { λ _. ⌜ Reached-safe ⌝ }
 {
     0
