@@ -5,6 +5,7 @@ pub mod Weights
 pub mod Still
 pub mod Clearing
 pub mod Account
+pub mod Order
 pub mod Moments
 pub mod Single
 pub mod Extend
@@ -15,3 +16,4 @@ pub mod Diverge
 pub mod Asking
 pub mod Safety
 pub mod Telling
+pub mod Leasts

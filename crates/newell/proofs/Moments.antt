@@ -31,6 +31,7 @@ use Rattle.network.proofs.Places.{In, only, leaves, leftFrom, entered}
 use Rattle.newell.proofs.Bounds.{out, V-le-U, U-mono, V-mono, storage, capacity-in, capacity-out, free-over, since, earlier}
 use Rattle.newell.proofs.Totals.{total, total-two, total-none, total-one}
 use Rattle.newell.proofs.Weights.{next-leaves, waits, drives}
+use Rattle.newell.proofs.Order.{leaver-count, leaver-at, is-in-order}
 use Rattle.newell.proofs.Account.{ever, for, conserved}
 use Rattle.newell.proofs.Clearing.{clearing}
 use Rattle.newell.proofs.Timeline.{booked-late, passed, stepped, timeline}
@@ -41,7 +42,7 @@ walk-bound net sound x (there {i = i} e l) k = let s = sound .link i k in omega 
 walk-bound net sound x (along {i = i} {j = j} {n = n} e r) k = let s = sound .link i k in let f = leftFrom net _ j (next-leaves net sound i x j e) in
     omega (arith, walk-bound net sound x r (f .0))
 
-served-bound : (net : Net) (sound : Sound net) (e x n : ℕ) → Served net e x n → n ≤ net .nodes
+pub served-bound : (net : Net) (sound : Sound net) (e x n : ℕ) → Served net e x n → n ≤ net .nodes
 served-bound net sound e x n s = let f = leftFrom net e (s .0) (subst (In (s .0)) (sym (s .1 .1)) (inl refl)) in
     omega (arith, walk-bound net sound x (s .2) (f .0))
 
@@ -120,50 +121,20 @@ module _ (net : Net) (sound : Sound net) (h : History) (c : Curves) (f : Follows
   lawful : Timeline net c (clock h) (booked h) (handed h)
   lawful = timeline net c h f
 
-  -- those that leave, by their places
-  leaver-count : (i t : ℕ) → i < net .links → t < clock h → V net c i t + length (leavers net c i t) ≡ V net c i (t + 1)
-  leaver-count i t k l =
-      let o = out net sound c (clock h) (booked h) (handed h) lawful t i l k in
-      let u = U-mono net sound c (clock h) (booked h) (handed h) lawful i (t + 1 - net .link i .free) t k (omega (arith, sound .link i k .free-least)) (omega arith) in
-      omega (
-        arith,
-        length-take (V net c i (t + 1) - V net c i t) (on net c i t),
-        length-drop (V net c i t) (c .came i t),
-        V-le-U net sound c (clock h) (booked h) (handed h) lawful i t k (omega arith),
-      )
-
-  leaver-at : (i t q : ℕ) (d : Vehicle) → i < net .links → t < clock h → q < length (leavers net c i t) → getD (leavers net c i t) q d ≡ getD (c .came i (t + 1)) (V net c i t + q) d
-  leaver-at i t q d k l b =
-      let n = leaver-count i t k l in
-      let m = length-take (V net c i (t + 1) - V net c i t) (on net c i t) in let m′ = length-drop (V net c i t) (c .came i t) in
-      getD-take (V net c i (t + 1) - V net c i t) (on net c i t) q d (omega arith) ∙ getD-drop (V net c i t) (c .came i t) q d
-      ∙ sym (rw (earlier net sound c (clock h) (booked h) (handed h) lawful i t k l .1) (getD-append-left (c .came i t) _ d (V net c i t + q) (omega arith)))
-
   pub is-kept : (i : ℕ) → i < net .links → Kept net c h i
   is-kept i k = record {
     storage = λ t l. storage net sound c (clock h) (booked h) (handed h) lawful i t k l;
     capacity-on = λ t l. capacity-in net sound c (clock h) (booked h) (handed h) lawful i t k l;
     capacity-off = λ t l. capacity-out net sound c (clock h) (booked h) (handed h) lawful i t k l;
-    in-order = in-order;
-    free-over = λ t l. all-from-getD _ (leavers net c i t) nobody (λ q b. rw (leaver-at i t q nobody k l b)
-        (free-over net sound c (clock h) (booked h) (handed h) lawful i t (V net c i t + q) nobody k l (omega (arith, leaver-count i t k l))));
+    free-over = λ t l. all-from-getD _ (leavers net c i t) nobody (λ q b. rw (leaver-at net sound h c f i t q nobody k l b)
+        (free-over net sound c (clock h) (booked h) (handed h) lawful i t (V net c i t + q) nobody k l (omega (arith, leaver-count net sound h c f i t k l))));
   }
     where
       nobody : Vehicle
       nobody = record { exit = 0; since = 0 }
 
-      in-order : (t : ℕ) → t < clock h → take (V net c i (t + 1)) (c .came i (t + 1)) ≡ take (V net c i t) (c .came i t) ++ leavers net c i t
-      in-order t l =
-          let n = leaver-count i t k l in
-          let m = length-take (V net c i (t + 1) - V net c i t) (on net c i t) in let m′ = length-drop (V net c i t) (c .came i t) in
-          let e : V net c i (t + 1) ≡ V net c i t + (V net c i (t + 1) - V net c i t) = omega arith in
-          let r = earlier net sound c (clock h) (booked h) (handed h) lawful i t k l in
-          ap (take (V net c i (t + 1))) (r .1) ∙ take-append-le (V net c i (t + 1)) (c .came i t) (r .0)
-          (omega (arith, V-le-U net sound c (clock h) (booked h) (handed h) lawful i t k (omega arith)))
-          ∙ ap (λ n. take n (c .came i t)) e ∙ take-add (V net c i t) (V net c i (t + 1) - V net c i t) (c .came i t)
-
   pub is-travel : (i t : ℕ) → i < net .links → t < clock h → Travels net c h i t
-  is-travel i t k l = record { absent = λ e. absent (leavers net c i t) (omega (arith, leaver-count i t k l)); present = present }
+  is-travel i t k l = record { absent = λ e. absent (leavers net c i t) (omega (arith, leaver-count net sound h c f i t k l)); present = present }
     where
       nobody : Vehicle
       nobody = record { exit = 0; since = 0 }
@@ -175,10 +146,10 @@ module _ (net : Net) (sound : Sound net) (h : History) (c : Curves) (f : Follows
       present : V net c i t < V net c i (t + 1)
           → (z : ℕ) × (travel net c i t ≡ Some (t + 1 - z)) × (V net c i (t + 1) ≤ U net c i z) × ((s : ℕ) → s < z → U net c i s < V net c i (t + 1))
       present b =
-          let n = leaver-count i t k l in
+          let n = leaver-count net sound h c f i t k l in
           let q : ℕ = length (leavers net c i t) - 1 in
           let e : V net c i t + q ≡ V net c i (t + 1) - 1 = omega arith in
-          let g = final-at (leavers net c i t) q nobody (omega arith) ∙ ap Some (leaver-at i t q nobody k l (omega arith)) in
+          let g = final-at (leavers net c i t) q nobody (omega arith) ∙ ap Some (leaver-at net sound h c f i t q nobody k l (omega arith)) in
           let z = since net sound c (clock h) (booked h) (handed h) lawful i (t + 1) (V net c i t + q) nobody k l′ (omega (arith, V-le-U net sound c (clock h) (booked h) (handed h) lawful i (t + 1) k l′)) in
           (_, ap (travelled net c t) g, omega (arith, z .reached), λ s w. omega (arith, z .before s w))
         where
@@ -208,6 +179,7 @@ pub at-each-moment : At-each-moment
 at-each-moment net sound h c f = record {
   conserved = is-conserved net sound h c f;
   kept = is-kept net sound h c f;
+  in-order = is-in-order net sound h c f;
   clears = is-cleared net sound h c f;
   travels = is-travel net sound h c f;
 }

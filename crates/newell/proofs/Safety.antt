@@ -28,11 +28,11 @@ use Rattle.newell.proofs.Account.{within}
 use Rattle.newell.proofs.Timeline.{timeline, passed, booked-late, early}
 
 module _ (net : Net) (sound : Sound net) (c : Curves) (T : ℕ) (booked : ℕ → ℕ → List ℕ) (m : ℕ → Meaning) (lawful : Timeline net c T booked m) where
-  sending : (i t : ℕ) → i < net .links → t ≤ T → V net c i t ≤ U net c i (t - (net .link i .free - 1))
+  pub sending : (i t : ℕ) → i < net .links → t ≤ T → V net c i t ≤ U net c i (t - (net .link i .free - 1))
   sending i t k l = le-trans (free-first net sound c T booked m lawful i t k l)
       (U-mono net sound c T booked m lawful i (t - net .link i .free) (t - (net .link i .free - 1)) k (omega arith) (omega arith))
 
-  taking : (i t : ℕ) → i < net .links → t ≤ T → U net c i t ≤ V net c i (t - (net .link i .wave - 1)) + net .link i .storage
+  pub taking : (i t : ℕ) → i < net .links → t ≤ T → U net c i t ≤ V net c i (t - (net .link i .wave - 1)) + net .link i .storage
   taking i zero k l = omega (arith, ap length (lawful .new-came i k))
   taking i (suc t) k l = let r = taking i t k (omega arith) in let w = sound .link i k .wave-least in
       let e : t + 1 - net .link i .wave ≡ t - (net .link i .wave - 1) = omega arith in

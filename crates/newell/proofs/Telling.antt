@@ -63,10 +63,13 @@ module _ (net : Net) (r : RunNow) (e x n : ℕ) where
   book-no-exit j en b = idle-carries net r (book e x n (refused 33)) tt (λ h at. inr ((j, en), inl ((λ w. b (w .0) (w .1)), refl)))
 
   pub book-not-served : (j i : ℕ) → Entrance net e j → Exit net x i → ((k : ℕ) → Walk net x j k → ⊥) → Carries net r (book e x n (refused 34)) r
-  book-not-served j i en ex b = idle-carries net r (book e x n (refused 34)) tt (λ h at. inr ((j, en), inr (
-    (i, ex),
-    inl ((λ w. b (w .0) (subst (λ q. Walk net x q (w .0)) (one net e j (w .1 .0) en (w .1 .1)) (w .1 .2))), refl),
-  )))
+  book-not-served j i en ex b = idle-carries net r (book e x n (refused 34)) tt (λ h at. inr (
+    (j, en),
+    inr (
+      (i, ex),
+      inl ((λ w. b (w .0) (subst (λ q. Walk net x q (w .0)) (one net e j (w .1 .0) en (w .1 .1)) (w .1 .2))), refl),
+    ),
+  ))
 
   pub book-bad-count : (j i k : ℕ) → Entrance net e j → Exit net x i → Walk net x j k → (n < 1) ⊎ (200 < n) → Carries net r (book e x n (refused 35)) r
   book-bad-count j i k en ex w b = idle-carries net r (book e x n (refused 35)) tt (λ h at. inr ((j, en), inr ((i, ex), inr ((k, (j, en, w)), inl (go b, refl)))))
@@ -77,10 +80,16 @@ module _ (net : Net) (r : RunNow) (e x n : ℕ) where
 
   pub book-no-place : (j i k : ℕ) → Entrance net e j → Exit net x i → Walk net x j k → 1 ≤ n → n ≤ 200 → 500 < length (r .queue j) + n
       → Carries net r (book e x n (refused 36)) r
-  book-no-place j i k en ex w low high b = idle-carries net r (book e x n (refused 36)) tt (λ h at. inr ((j, en), inr ((i, ex), inr (
-    (k, (j, en, w)),
-    inr ((low, high), inl ((λ z. omega (arith, z j en, waits net r e j en h at)), refl)),
-  ))))
+  book-no-place j i k en ex w low high b = idle-carries net r (book e x n (refused 36)) tt (λ h at. inr (
+    (j, en),
+    inr (
+      (i, ex),
+      inr (
+        (k, (j, en, w)),
+        inr ((low, high), inl ((λ z. omega (arith, z j en, waits net r e j en h at)), refl)),
+      ),
+    ),
+  ))
 
 -- the refusals of a step, which leave rule and rows as they were
 module _ (net : Net) (r : RunNow) (m : Meaning) (rows : List StepRow) where

@@ -16,6 +16,10 @@ pub record Curves : Type 0 where
   pub came : ℕ → ℕ → List Vehicle
   pub left : ℕ → ℕ → ℕ
 
+-- their exits, in order
+abbrev pub exits : List Vehicle → List ℕ
+exits vs = map (λ v. v .exit) vs
+
 -- of vehicles that leave the link i, those that take the link j
 abbrev pub towards : Net → ℕ → ℕ → List Vehicle → List Vehicle
 towards net i j vs = kept-by (λ v. is (next net i (v .exit)) j) vs
@@ -46,6 +50,10 @@ module _ (net : Net) (c : Curves) where
   abbrev pub leavers : ℕ → ℕ → List Vehicle
   leavers i t = take (V i (t + 1) - V i t) (on i t)
 
+  -- those that come on a link in the step from t
+  abbrev pub newcomers : ℕ → ℕ → List Vehicle
+  newcomers j t = drop (U j t) (c .came j (t + 1))
+
   -- those waiting for the link j at clock t, by their exits, if `booked` are all that were booked at its entrance
   abbrev pub waiting : List ℕ → ℕ → ℕ → List ℕ
   waiting booked j t = drop (U j t) booked
@@ -55,7 +63,7 @@ module _ (net : Net) (c : Curves) where
   abbrev pub arrivals : List ℕ → ℕ → ℕ → List ℕ
   arrivals booked j t =
       take (R j t) (waiting booked j t)
-      ++ joined (λ i. map (λ v. v .exit) (towards net i j (leavers i t))) (entering net (net .link j .from))
+      ++ joined (λ i. exits (towards net i j (leavers i t))) (entering net (net .link j .from))
 
   -- what a diverge with the leaving links j and j′ may pass: of the first k vehicles, each leaving link gets no more than it may take
   pub record Passable (i j j′ t k : ℕ) : Type 0 where

@@ -1,7 +1,7 @@
 use Rattle.newell.proofs.Carried.{opening-starts, booking-carries, step-carries, idle-carries, link-tells}
 use Rattle.newell.proofs.Telling.{entrance-tells, exit-tells, ran-carries, each-moment}
 use Rattle.newell.proofs.Safety.{reached-safe}
-use Rattle.newell.proofs.calls_carry.Needs as need
+use Rattle.newell.proofs.theorems.calls_carry.Needs as need
 
 pub returns : need.returns
 returns c = record {
