@@ -101,7 +101,6 @@ impl<'a> Yard<'a> {
         requires full { ⌜ AllFull (now self) ⌝ }
         ensures { λ _. ⌜ NotedAt (now (self .entry)) i on off travel (now (self .exit)) ⌝ }
     {
-        self.table
-            .change(i, Change::Readings { on, off, travel });
+        self.table.change(i, Change::Readings { on, off, travel });
     }
 }
