@@ -1,0 +1,17 @@
+pub mod Timeline
+pub mod Bounds
+pub mod Totals
+pub mod Weights
+pub mod Still
+pub mod Clearing
+pub mod Account
+pub mod Moments
+pub mod Single
+pub mod Extend
+pub mod Calls
+pub mod Carried
+pub mod Corridor
+pub mod Diverge
+pub mod Asking
+pub mod Safety
+pub mod Telling

@@ -1,0 +1,4 @@
+pub mod Plain
+pub mod History
+pub mod Promise
+pub mod Now
