@@ -5,7 +5,7 @@ use mathlib.Core.List.{[]}
 use mathlib.Core.Bool.{cond}
 use Prim.Native.Nat.{ℕ, _+_, _-_, _<_}
 use lib.Dec.{ltb}
-use lib.ListN.{getD, length}
+use lib.ListN.{getD, length, replicate}
 use Rattle.std.specs.declared.option.Option.{Option}
 use Rattle.std.specs.declared.option.Option.the-variants.{None}
 use Rattle.line.specs.declared.shape.Mark.{Mark}
@@ -27,6 +27,16 @@ blankCurve = record { slots = []; mark = record { head = 0; len = 0 } }
 
 abbrev pub blankRecord : LinkRecord
 blankRecord = record { road = blankLane; queue = blankLane; ons = blankCurve; offs = blankCurve; travel = None }
+
+-- records of a run just opened
+abbrev pub freshLane : ℕ → ℕ → Lane
+freshLane start size = record { start = start; size = size; mark = record { head = 0; len = 0 } }
+
+abbrev pub freshCurve : Curve
+freshCurve = record { slots = replicate 64 0; mark = record { head = 0; len = 64 } }
+
+abbrev pub freshRecord : Lane → Lane → LinkRecord
+freshRecord road queue = record { road = road; queue = queue; ons = freshCurve; offs = freshCurve; travel = None }
 
 abbrev pub recordAt : Table → ℕ → LinkRecord
 recordAt table i = getD (table .links) i blankRecord

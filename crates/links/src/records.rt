@@ -1,6 +1,10 @@
 // The records of the links, and the area that their vehicles lie in.
 use line::Mark;
+use network::LINKS;
 use newell::Vehicle;
+
+// How many readings are kept of a curve.
+pub const READINGS: usize = 64;
 
 // A part of the area, and where its entries lie.
 #[derive(Clone, Copy)]
@@ -13,7 +17,7 @@ pub struct Lane {
 // The last 64 readings, in a line that is always full.
 #[derive(Clone, Copy)]
 pub struct Curve {
-    pub slots: [u32; 64],
+    pub slots: [u32; READINGS],
     pub mark: Mark,
 }
 
@@ -28,11 +32,13 @@ pub struct LinkRecord {
     pub travel: Option<u32>,
 }
 
+// The records of all links, by place.
 #[derive(Drop)]
 pub struct Table {
-    pub links: [LinkRecord; 48],
+    pub(crate) links: [LinkRecord; LINKS],
 }
 
+// The table, and the area that its lanes are parts of.
 #[derive(Drop)]
 pub struct Yard<'a> {
     pub area: &'a mut [Vehicle],
