@@ -41,7 +41,7 @@ sound = record {
   route = λ n x k e. absurd (let z : _≡_ {A = ℕ} 0 1 = cc in omega arith);
 }
   where
-    links : (i : ℕ) → i < 3 → SoundLink net (lk i)
+    links : (i : ℕ) → i < 3 → SoundLink 4 (lk i)
     links zero h = record {
       from-node = lit≤ tt;
       upward = lit< tt;
