@@ -15,7 +15,10 @@ use Rattle.newell.specs.declared.records.Vehicle.{Vehicle}
 use Rattle.network.specs.Net.{Net, next}
 use Rattle.newell.specs.History.{final}
 use Rattle.links.specs.declared.records.Yard.{Yard}
-use Rattle.links.specs.Yards.{holds, sizeOf, Laid, Put}
+use Rattle.line.specs.Spots.{wrote, written}
+use Rattle.line.proofs.Writing.{written-append}
+use Rattle.links.specs.Yards.{holds, spotsOf, sizeOf, Laid, Put}
+use Rattle.links.proofs.Spacing.{beyond-none, beyond-more}
 use Rattle.flow.specs.Flows.{going, taking, stamped, nobody, leader, lasted, Gone, Sent}
 use Rattle.flow.proofs.Fronts.{led}
 use Rattle.flow.proofs.Going.{stamped-append, stamped-none, stamped-one, stamped-length, going-nil, going-append, going-one, taking-some, taking-not, room-one}
@@ -25,14 +28,25 @@ module _ (net : Net) (t i : ℕ) where
   gone-none x y e laid = record {
     to = λ j l. let no : next net i x ≡ Some j → ⊥ = λ f. (let z : _≡_ {A = ℕ} 0 1 = cc in omega arith) in
         sym (ap (λ vs. holds y j ++ vs) (stamped-none t _ (taking-not net i j x no)) ∙ append-nil (holds y j));
+    spots = λ j l. let no : next net i x ≡ Some j → ⊥ = λ f. (let z : _≡_ {A = ℕ} 0 1 = cc in omega arith) in
+        sym (ap (written (spotsOf y j)) (stamped-none t _ (taking-not net i j x no)));
+    beyond = beyond-none y;
     sizes = λ l. refl;
     gauges = λ l. refl;
     laid = laid;
     same = refl;
   }
 
-  pub gone-some : (x j : ℕ) (y y′ : Yard) → Some j ≡ next net i x → Put y y′ j (holds y j ++ record { exit = x; since = t + 1 } ∷ []) → Gone net t i x y y′
-  gone-some x j y y′ e p = record {
+  pub gone-some : (x j : ℕ) (y y′ : Yard) → Some j ≡ next net i x → Put y y′ j (holds y j ++ record { exit = x; since = t + 1 } ∷ [])
+      → spotsOf y′ j ≡ wrote (spotsOf y j) (record { exit = x; since = t + 1 }) → Gone net t i x y y′
+  gone-some x j y y′ e p w = record {
+    spots = λ l h. ⊎-elim
+        (λ (q : l ≡ j). subst (λ k. spotsOf y′ k ≡ written (spotsOf y k) (stamped t (taking net i k x))) (sym q)
+        (w ∙ ap (written (spotsOf y j)) (sym (stamped-one t x _ (taking-some net i j x (sym e))))))
+        (λ (q : l ≢ j). let no : next net i x ≡ Some l → ⊥ = λ f. (let z : j ≡ l = cc in q (sym z)) in
+        p .spots l h q ∙ sym (ap (written (spotsOf y l)) (stamped-none t _ (taking-not net i l x no))))
+        (cases-eq l j);
+    beyond = p .beyond;
     to = λ l h. ⊎-elim
         (λ (q : l ≡ j). subst (λ k. holds y′ k ≡ holds y k ++ stamped t (taking net i k x)) (sym q)
         (p .here ∙ ap (λ vs. holds y j ++ vs) (sym (stamped-one t x _ (taking-some net i j x (sym e))))))
@@ -48,9 +62,12 @@ module _ (net : Net) (t i : ℕ) where
   pub leads : (vs : List Vehicle) (v : Vehicle) → Some v ≡ first vs → v ≡ leader vs
   leads vs v e = led vs v e .0
 
-  pub sent-one : (y y₁ y₂ : Yard) (v : Vehicle) → i < 96 → Some v ≡ first (holds y i) → Put y y₁ i (rest (holds y i)) → Gone net t i (v .exit) y₁ y₂
+  pub sent-one : (y y₁ y₂ : Yard) (v : Vehicle) → i < 96 → Some v ≡ first (holds y i) → Put y y₁ i (rest (holds y i)) → spotsOf y₁ i ≡ spotsOf y i → Gone net t i (v .exit) y₁ y₂
       → (next net i (leader (holds y i) .exit) ≡ Some i → ⊥) → Sent net t i (leader (holds y i) ∷ []) y y₂
-  sent-one y y₁ y₂ v b e p g bar = record {
+  sent-one y y₁ y₂ v b e p u g bar = record {
+    stay = g .spots i b ∙ ap (written (spotsOf y₁ i)) nobody-back ∙ u;
+    spots = λ j l ne. g .spots j l ∙ ap₂ (λ s zs. written s zs) (p .spots j l ne) (ap (stamped t) (ap (taking net i j) x ∙ sym (going-one net i j (leader (holds y i)))));
+    beyond = beyond-more y y₁ y₂ (p .beyond) (g .beyond);
     from = led (holds y i) v e .1 ∙ ap₂ {C = List Vehicle} (λ u ws. u ∷ ws) q (sym (p .here) ∙ sym stay);
     to = λ j l ne. g .to j l ∙ ap₂ (λ ws zs. ws ++ zs) (p .others j l ne) (ap (stamped t) (ap (taking net i j) x ∙ sym (going-one net i j (leader (holds y i)))));
     sizes = λ l. g .sizes l ∙ p .sizes l;
@@ -65,13 +82,19 @@ module _ (net : Net) (t i : ℕ) where
       x : v .exit ≡ leader (holds y i) .exit
       x = ap (λ (u : Vehicle). u .exit) q
 
+      nobody-back : stamped t (taking net i i (v .exit)) ≡ []
+      nobody-back = stamped-none t _ (taking-not net i i (v .exit) (λ f. bar (ap (next net i) (sym x) ∙ f)))
+
       stay : holds y₂ i ≡ holds y₁ i
-      stay = g .to i b ∙ ap (λ ws. holds y₁ i ++ ws) (stamped-none t _ (taking-not net i i (v .exit) (λ f. bar (ap (next net i) (sym x) ∙ f)))) ∙ append-nil (holds y₁ i)
+      stay = g .to i b ∙ ap (λ ws. holds y₁ i ++ ws) nobody-back ∙ append-nil (holds y₁ i)
 
   pub sent-none : (y : Yard) → Laid y → Sent net t i [] y y
   sent-none y laid = record {
     from = refl;
     to = λ j l ne. sym (ap (λ vs. holds y j ++ vs) (stamped-none t _ (going-nil net i j)) ∙ append-nil (holds y j));
+    stay = refl;
+    spots = λ j l ne. sym (ap (written (spotsOf y j)) (stamped-none t _ (going-nil net i j)));
+    beyond = beyond-none y;
     sizes = λ l. refl;
     gauges = λ l. refl;
     laid = laid;
@@ -84,6 +107,11 @@ module _ (net : Net) (t i : ℕ) where
     to = λ j l ne. b .to j l ne ∙ ap (λ us. us ++ stamped t (going net i j ws)) (a .to j l ne)
         ∙ append-assoc (holds y j) (stamped t (going net i j vs)) (stamped t (going net i j ws))
         ∙ ap (λ us. holds y j ++ us) (sym (stamped-append t (going net i j vs) (going net i j ws)) ∙ ap (stamped t) (sym (going-append net i j vs ws)));
+    stay = b .stay ∙ a .stay;
+    spots = λ j l ne. b .spots j l ne ∙ ap (λ s. written s (stamped t (going net i j ws))) (a .spots j l ne)
+        ∙ written-append (spotsOf y j) (stamped t (going net i j vs)) (stamped t (going net i j ws))
+        ∙ ap (written (spotsOf y j)) (sym (stamped-append t (going net i j vs) (going net i j ws)) ∙ ap (stamped t) (sym (going-append net i j vs ws)));
+    beyond = beyond-more y y₁ y₂ (a .beyond) (b .beyond);
     sizes = λ l. b .sizes l ∙ a .sizes l;
     gauges = λ l. b .gauges l ∙ a .gauges l;
     laid = b .laid;

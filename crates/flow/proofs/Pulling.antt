@@ -15,7 +15,10 @@ use Rattle.std.proofs.shelf.Tests.{cases-eq, cases-lt}
 use Rattle.line.specs.Ring.{first, rest}
 use Rattle.newell.specs.declared.records.Vehicle.{Vehicle}
 use Rattle.links.specs.declared.records.Yard.{Yard}
-use Rattle.links.specs.Yards.{holds, sizeOf, Laid, Put}
+use Rattle.line.specs.Spots.{wrote, written}
+use Rattle.line.proofs.Writing.{written-append}
+use Rattle.links.specs.Yards.{holds, spotsOf, sizeOf, Laid, Put}
+use Rattle.links.proofs.Spacing.{beyond-none, beyond-more}
 use Rattle.flow.specs.Flows.{stamped, exits, nobody, leader, upTo, Pulled, PulledAll}
 use Rattle.flow.proofs.Going.{stamped-append, stamped-none, stamped-one, stamped-length}
 use Rattle.flow.proofs.Fronts.{led, front}
@@ -37,9 +40,9 @@ unfolding exits
 exits-length vs = simp length-map
 
 module _ (t j : ℕ) (b : j < 48) where
-  pub pulled-one : (y y₁ y₂ : Yard) (v : Vehicle) → Some v ≡ first (holds y (48 + j)) → Put y y₁ (48 + j) (rest (holds y (48 + j)))
-      → Put y₁ y₂ j (holds y₁ j ++ record { exit = v .exit; since = t + 1 } ∷ []) → Pulled t j (leader (holds y (48 + j)) ∷ []) y y₂
-  pulled-one y y₁ y₂ v e p q =
+  pub pulled-one : (y y₁ y₂ : Yard) (v : Vehicle) → Some v ≡ first (holds y (48 + j)) → Put y y₁ (48 + j) (rest (holds y (48 + j))) → spotsOf y₁ (48 + j) ≡ spotsOf y (48 + j)
+      → Put y₁ y₂ j (holds y₁ j ++ record { exit = v .exit; since = t + 1 } ∷ []) → spotsOf y₂ j ≡ wrote (spotsOf y₁ j) (record { exit = v .exit; since = t + 1 }) → Pulled t j (leader (holds y (48 + j)) ∷ []) y y₂
+  pulled-one y y₁ y₂ v e p w q w′ =
       let x = led (holds y (48 + j)) v e in
       let n : 48 + j ≢ j = omega arith in
       let n′ : j ≢ 48 + j = omega arith in
@@ -47,6 +50,9 @@ module _ (t j : ℕ) (b : j < 48) where
         from = x .1 ∙ ap₂ {C = List Vehicle} (λ u ws. u ∷ ws) (x .0) (sym (p .here) ∙ sym (q .others (48 + j) (omega arith) n));
         on = q .here ∙ ap₂ (λ us ws. us ++ ws) (p .others j (omega arith) n′) (sym (stamped-one t (v .exit) _ (exits-one (leader (holds y (48 + j))) ∙ ap (λ (u : Vehicle). u .exit ∷ []) (sym (x .0)))));
         others = λ l h a c. q .others l h a ∙ p .others l h c;
+        spots = w′ ∙ ap₂ (λ s ws. written s ws) (p .spots j (omega arith) n′) (sym (stamped-one t (v .exit) _ (exits-one (leader (holds y (48 + j))) ∙ ap (λ (u : Vehicle). u .exit ∷ []) (sym (x .0)))));
+        rests = λ l h a. q .spots l h a ∙ ⊎-elim (λ (z : l ≡ 48 + j). subst (λ k. spotsOf y₁ k ≡ spotsOf y k) (sym z) w) (λ (c : l ≢ 48 + j). p .spots l h c) (cases-eq l (48 + j));
+        beyond = beyond-more y y₁ y₂ (p .beyond) (q .beyond);
         sizes = λ l. q .sizes l ∙ p .sizes l;
         gauges = λ l. q .gauges l ∙ p .gauges l;
         laid = q .laid;
@@ -58,6 +64,9 @@ module _ (t j : ℕ) (b : j < 48) where
     from = refl;
     on = sym (ap (λ vs. holds y j ++ vs) (stamped-none t _ exits-nil) ∙ append-nil (holds y j));
     others = λ l h a c. refl;
+    spots = sym (ap (written (spotsOf y j)) (stamped-none t _ exits-nil));
+    rests = λ l h a. refl;
+    beyond = beyond-none y;
     sizes = λ l. refl;
     gauges = λ l. refl;
     laid = laid;
@@ -70,6 +79,10 @@ module _ (t j : ℕ) (b : j < 48) where
     on = q .on ∙ ap (λ us. us ++ stamped t (exits ws)) (p .on) ∙ append-assoc (holds y j) (stamped t (exits vs)) (stamped t (exits ws))
         ∙ ap (λ us. holds y j ++ us) (sym (stamped-append t (exits vs) (exits ws)) ∙ ap (stamped t) (sym (exits-append vs ws)));
     others = λ l h a c. q .others l h a c ∙ p .others l h a c;
+    spots = q .spots ∙ ap (λ s. written s (stamped t (exits ws))) (p .spots) ∙ written-append (spotsOf y j) (stamped t (exits vs)) (stamped t (exits ws))
+        ∙ ap (written (spotsOf y j)) (sym (stamped-append t (exits vs) (exits ws)) ∙ ap (stamped t) (sym (exits-append vs ws)));
+    rests = λ l h a. q .rests l h a ∙ p .rests l h a;
+    beyond = beyond-more y y₁ y₂ (p .beyond) (q .beyond);
     sizes = λ l. q .sizes l ∙ p .sizes l;
     gauges = λ l. q .gauges l ∙ p .gauges l;
     laid = q .laid;
@@ -100,6 +113,9 @@ module _ (t : ℕ) (k : ℕ → ℕ) where
   pulls-none y laid = record {
     from = λ j l. sym (ap (λ n. drop n (holds y (48 + j))) (zero-up j));
     on = λ j l. sym (ap (λ vs. holds y j ++ vs) (stamped-none t _ (ap (λ n. exits (take n (holds y (48 + j)))) (zero-up j) ∙ exits-nil)) ∙ append-nil (holds y j));
+    spots = λ j l. sym (ap (written (spotsOf y j)) (stamped-none t _ (ap (λ n. exits (take n (holds y (48 + j)))) (zero-up j) ∙ exits-nil)));
+    rests = λ j l. refl;
+    beyond = beyond-none y;
     sizes = λ l. refl;
     gauges = λ l. refl;
     laid = laid;
@@ -115,6 +131,9 @@ module _ (t : ℕ) (k : ℕ → ℕ) where
 
     pub cars-same : holds y₁ i ≡ holds y i
     cars-same = s .on i b ∙ ap (λ vs. holds y i ++ vs) (stamped-none t _ (ap (λ n. exits (take n (holds y (48 + i)))) here ∙ exits-nil)) ∙ append-nil (holds y i)
+
+    spots-same : spotsOf y₁ i ≡ spotsOf y i
+    spots-same = s .spots i b ∙ ap (written (spotsOf y i)) (stamped-none t _ (ap (λ n. exits (take n (holds y (48 + i)))) here ∙ exits-nil))
 
     pub pull-fits : (n w : ℕ) → w ≡ length (holds y₁ (48 + i)) → n ≡ min w (k i) → length (holds y i) + length (take (k i) (holds y (48 + i))) ≤ sizeOf y i → length (holds y₁ i) + n ≤ sizeOf y₁ i
     pull-fits n w e f r = omega (arith, ap length cars-same, ap length waits-same, s .sizes i, length-take (k i) (holds y (48 + i)))
@@ -138,6 +157,13 @@ module _ (t : ℕ) (k : ℕ → ℕ) where
           (λ (q : j ≡ i). subst (λ z. holds y₂ z ≡ holds y z ++ stamped t (exits (take (upTo (i + 1) z (k z)) (holds y (48 + z))))) (sym q) come)
           (λ (ne : j ≢ i). p .others j (omega arith) ne (omega arith) ∙ s .on j l ∙ ap (λ n. holds y j ++ stamped t (exits (take n (holds y (48 + j))))) (below j ne))
           (cases-eq j i);
+      spots = λ j l. ⊎-elim
+          (λ (q : j ≡ i). subst (λ z. spotsOf y₂ z ≡ written (spotsOf y z) (stamped t (exits (take (upTo (i + 1) z (k z)) (holds y (48 + z)))))) (sym q)
+          (p .spots ∙ ap₂ (λ z ws. written z (stamped t (exits ws))) spots-same same))
+          (λ (ne : j ≢ i). p .rests j (omega arith) ne ∙ s .spots j l ∙ ap (λ n. written (spotsOf y j) (stamped t (exits (take n (holds y (48 + j)))))) (below j ne))
+          (cases-eq j i);
+      rests = λ j l. p .rests (48 + j) (omega arith) (omega arith) ∙ s .rests j l;
+      beyond = beyond-more y y₁ y₂ (s .beyond) (p .beyond);
       sizes = λ l. p .sizes l ∙ s .sizes l;
       gauges = λ l. p .gauges l ∙ s .gauges l;
       laid = p .laid;

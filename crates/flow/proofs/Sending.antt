@@ -19,7 +19,10 @@ use Rattle.newell.specs.declared.records.Vehicle.{Vehicle}
 use Rattle.network.specs.Net.{Net, next}
 use Rattle.newell.specs.History.{final}
 use Rattle.links.specs.declared.records.Yard.{Yard}
-use Rattle.links.specs.Yards.{holds, sizeOf, Laid}
+use Rattle.line.specs.Spots.{written}
+use Rattle.line.proofs.Writing.{written-append}
+use Rattle.links.specs.Yards.{holds, spotsOf, sizeOf, Laid}
+use Rattle.links.proofs.Spacing.{beyond-none, beyond-more}
 use Rattle.flow.specs.Flows.{going, stamped, nobody, lasted, Sent, cameBy, upTo, SentAll, Sendable}
 use Rattle.flow.proofs.Going.{stamped-append, stamped-none, stamped-length, going-nobody}
 
@@ -33,6 +36,8 @@ module _ (net : Net) (t : ℕ) (k : ℕ → ℕ) where
   all-none y laid = record {
     to = λ j l. let e : upTo 0 j (k j) ≡ 0 = ap (λ b. cond b (k j) 0) (le-ltb j 0 (omega arith)) in
         sym (ap₂ (λ n vs. drop n (holds y j) ++ vs) e (stamped-none t [] refl) ∙ append-nil (holds y j));
+    spots = λ j l. sym (ap (written (spotsOf y j)) (stamped-none t [] refl));
+    beyond = beyond-none y;
     sizes = λ l. refl;
     gauges = λ l. refl;
     laid = laid;
@@ -71,9 +76,20 @@ module _ (net : Net) (t : ℕ) (k : ℕ → ℕ) where
       front n xs ys h e = same-lists _ _ (let w = ap length e in let v = length-append (take n xs) ys in let u = length-take-le n xs h in simp length-drop (omega arith))
           (λ q z l. let f = ap (λ (zs : List Vehicle). getD zs (n + q) z) e in grind (arith, places))
 
+      none-own : cameBy net (holds y) k i i ≡ cameBy net (holds y) k (suc i) i
+      none-own = sym (ap (λ ys. cameBy net (holds y) k i i ++ ys) (going-nobody net i i (take (k i) (holds y i)) apart) ∙ append-nil (cameBy net (holds y) k i i))
+
       own : holds y₂ i ≡ drop (k i) (holds y i) ++ stamped t (cameBy net (holds y) k (suc i) i)
       own = front (k i) (holds y₁ i) (holds y₂ i) enough (d .from) ∙ ap (drop (k i)) mine ∙ drop-append-le (k i) (holds y i) _ (ask .enough i low)
-          ∙ ap (λ xs. drop (k i) (holds y i) ++ stamped t xs) (sym (ap (λ ys. cameBy net (holds y) k i i ++ ys) (going-nobody net i i (take (k i) (holds y i)) apart) ∙ append-nil (cameBy net (holds y) k i i)))
+          ∙ ap (λ xs. drop (k i) (holds y i) ++ stamped t xs) none-own
+
+      own-spots : spotsOf y₂ i ≡ written (spotsOf y i) (stamped t (cameBy net (holds y) k (suc i) i))
+      own-spots = d .stay ∙ s .spots i (omega arith) ∙ ap (λ xs. written (spotsOf y i) (stamped t xs)) none-own
+
+      their-spots : (j : ℕ) → j < 96 → j ≢ i → spotsOf y₂ j ≡ written (spotsOf y j) (stamped t (cameBy net (holds y) k (suc i) j))
+      their-spots j l ne = d .spots j l ne ∙ ap₂ (λ z vs. written z (stamped t (going net i j vs))) (s .spots j l) first-same
+          ∙ written-append (spotsOf y j) (stamped t (cameBy net (holds y) k i j)) (stamped t (going net i j (take (k i) (holds y i))))
+          ∙ ap (written (spotsOf y j)) (sym (stamped-append t (cameBy net (holds y) k i j) (going net i j (take (k i) (holds y i)))))
 
       theirs : (j : ℕ) → j < 96 → j ≢ i → holds y₂ j ≡ drop (upTo i j (k j)) (holds y j) ++ stamped t (cameBy net (holds y) k (suc i) j)
       theirs j l ne = d .to j l ne ∙ ap₂ (λ us vs. us ++ stamped t (going net i j vs)) (s .to j l) first-same
@@ -90,6 +106,11 @@ module _ (net : Net) (t : ℕ) (k : ℕ → ℕ) where
             (own ∙ ap (λ n. drop n (holds y i) ++ stamped t (cameBy net (holds y) k (suc i) i)) (sym (ap (λ b. cond b (k i) 0) (lt-ltb i (suc i) (omega arith))))))
             (λ (ne : j ≢ i). theirs j l ne ∙ ap (λ b. drop (cond b (k j) 0) (holds y j) ++ stamped t (cameBy net (holds y) k (suc i) j)) (below j ne))
             (cases-eq j i);
+        spots = λ j l. ⊎-elim
+            (λ (e : j ≡ i). subst (λ q. spotsOf y₂ q ≡ written (spotsOf y q) (stamped t (cameBy net (holds y) k (suc i) q))) (sym e) own-spots)
+            (λ (ne : j ≢ i). their-spots j l ne)
+            (cases-eq j i);
+        beyond = beyond-more y y₁ y₂ (s .beyond) (d .beyond);
         sizes = λ l. d .sizes l ∙ s .sizes l;
         gauges = λ l. d .gauges l ∙ s .gauges l;
         laid = d .laid;

@@ -16,7 +16,10 @@ use Rattle.newell.specs.declared.records.Vehicle.{Vehicle}
 use Rattle.network.specs.Net.{Net, next}
 use Rattle.newell.specs.History.{final}
 use Rattle.links.specs.declared.records.Yard.{Yard}
-use Rattle.links.specs.Yards.{holds, sizeOf, Laid}
+use Rattle.line.specs.Spots.{written}
+use Rattle.line.proofs.Writing.{written-append}
+use Rattle.links.specs.Yards.{holds, spotsOf, sizeOf, Laid}
+use Rattle.links.proofs.Spacing.{beyond-more}
 use Rattle.flow.specs.Flows.{going, stamped, exits, nobody, lasted, cameBy, upTo, SentAll, Sendable, PulledAll, Shifted, Shiftable}
 use Rattle.flow.proofs.Going.{stamped-append, stamped-none, stamped-length, going-nobody}
 use Rattle.flow.proofs.Pulling.{exits-length, exits-nil}
@@ -37,6 +40,20 @@ module _ (net : Net) (t : ℕ) (r k : ℕ → ℕ) (y y₁ : Yard) (few : net .l
 
   come : (j : ℕ) → j < net .links → holds y₁ j ≡ holds y j ++ stamped t (exits (take (r j) (holds y (48 + j))))
   come j l = p .on j (omega arith) ∙ ap (λ n. holds y j ++ stamped t (exits (take n (holds y (48 + j))))) (all-up j l)
+
+  come-spots : (j : ℕ) → j < net .links → spotsOf y₁ j ≡ written (spotsOf y j) (stamped t (exits (take (r j) (holds y (48 + j)))))
+  come-spots j l = p .spots j (omega arith) ∙ ap (λ n. written (spotsOf y j) (stamped t (exits (take n (holds y (48 + j)))))) (all-up j l)
+
+  none-up : (j : ℕ) → net .links ≤ j → (n : ℕ) → upTo (net .links) j n ≡ 0
+  none-up j l n = ap (λ b. cond b n 0) (le-ltb j (net .links) l)
+
+  -- those that come from an entrance where there is no link
+  none-come : (j : ℕ) → net .links ≤ j → stamped t (exits (take (upTo (net .links) j (r j)) (holds y (48 + j)))) ≡ []
+  none-come j l = stamped-none t _ (ap (λ n. exits (take n (holds y (48 + j)))) (none-up j l (r j)) ∙ exits-nil)
+
+  -- and those that come from links
+  none-came : (j : ℕ) → net .links ≤ j → stamped t (cameBy net (holds y₁) k (net .links) j) ≡ []
+  none-came j l = stamped-none t _ (came-nobody net (holds y₁) k (net .links) j (λ i x a e. (let z = inside i x j a e in omega arith)))
 
   pub first-kept : (i : ℕ) → i < net .links → take (k i) (holds y₁ i) ≡ take (k i) (holds y i)
   first-kept i l = ap (take (k i)) (come i l) ∙ take-append-le (k i) (holds y i) _ (ask .enough i l)
@@ -63,16 +80,30 @@ module _ (net : Net) (t : ℕ) (r k : ℕ → ℕ) (y y₁ : Yard) (few : net .l
         ∙ ap (λ (vs : List Vehicle). vs ++ stamped t (cameBy net (holds y) k (net .links) j)) (drop-append-le (k j) (holds y j) _ (ask .enough j l))
         ∙ append-assoc (drop (k j) (holds y j)) (stamped t (exits (take (r j) (holds y (48 + j))))) (stamped t (cameBy net (holds y) k (net .links) j))
         ∙ ap (λ (vs : List Vehicle). drop (k j) (holds y j) ++ vs) (sym (stamped-append t (exits (take (r j) (holds y (48 + j)))) (cameBy net (holds y) k (net .links) j)));
-    waits = λ j l. s .to (48 + j) (omega arith)
-        ∙ ap₂ (λ n xs. drop n (holds y₁ (48 + j)) ++ stamped t xs) (ap (λ b. cond b (k (48 + j)) 0) (le-ltb (48 + j) (net .links) (omega arith)))
-        (came-nobody net (holds y₁) k (net .links) (48 + j) (λ i x a e. (let z = inside i x (48 + j) a e in omega arith)))
-        ∙ ap (λ (vs : List Vehicle). holds y₁ (48 + j) ++ vs) (stamped-none t [] refl) ∙ append-nil (holds y₁ (48 + j))
-        ∙ p .from j (omega arith) ∙ ap (λ n. drop n (holds y (48 + j))) (all-up j l);
+    waits = λ j l. still (48 + j) (omega arith) (omega arith) ∙ p .from j (omega arith) ∙ ap (λ n. drop n (holds y (48 + j))) (all-up j l);
+    spots = λ j l. s .spots j (omega arith)
+        ∙ ap₂ (λ z xs. written z (stamped t xs)) (come-spots j l) (came-kept j)
+        ∙ written-append (spotsOf y j) (stamped t (exits (take (r j) (holds y (48 + j))))) (stamped t (cameBy net (holds y) k (net .links) j))
+        ∙ ap (written (spotsOf y j)) (sym (stamped-append t (exits (take (r j) (holds y (48 + j)))) (cameBy net (holds y) k (net .links) j)));
+    rests = λ j l. still-spots (48 + j) (omega arith) (omega arith) ∙ p .rests j l;
+    beyond = beyond-more y y₁ y₂ (p .beyond) (s .beyond);
+    idle = λ j a l. (
+      still j a (omega arith) ∙ p .on j l ∙ ap (λ (vs : List Vehicle). holds y j ++ vs) (none-come j a) ∙ append-nil (holds y j),
+      still (48 + j) (omega arith) (omega arith) ∙ p .from j l ∙ ap (λ n. drop n (holds y (48 + j))) (none-up j a (r j)),
+      still-spots j a (omega arith) ∙ p .spots j l ∙ ap (written (spotsOf y j)) (none-come j a),
+    );
     sizes = λ l. s .sizes l ∙ p .sizes l;
     gauges = λ l. s .gauges l ∙ p .gauges l;
     laid = s .laid;
     same = s .same ∙ p .same;
   }
+    where
+      -- lanes of no link neither send nor get any
+      still : (j : ℕ) → net .links ≤ j → j < 96 → holds y₂ j ≡ holds y₁ j
+      still j a l = s .to j l ∙ ap₂ (λ n xs. drop n (holds y₁ j) ++ xs) (none-up j a (k j)) (none-came j a) ∙ append-nil (holds y₁ j)
+
+      still-spots : (j : ℕ) → net .links ≤ j → j < 96 → spotsOf y₂ j ≡ spotsOf y₁ j
+      still-spots j a l = s .spots j l ∙ ap (written (spotsOf y₁ j)) (none-came j a)
 
   pub times-kept : (i : ℕ) → i < net .links → lasted t (final (take (k i) (holds y₁ i))) ≡ lasted t (final (take (k i) (holds y i)))
   times-kept i l = ap (λ vs. lasted t (final vs)) (first-kept i l)

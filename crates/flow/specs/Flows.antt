@@ -13,7 +13,8 @@ use Rattle.newell.specs.declared.records.Vehicle.{Vehicle}
 use Rattle.network.specs.Net.{Net, next, is}
 use Rattle.newell.specs.Plain.{towards}
 use Rattle.links.specs.declared.records.Yard.{Yard}
-use Rattle.links.specs.Yards.{holds, sizeOf, gaugeOf, Laid}
+use Rattle.line.specs.Spots.{written}
+use Rattle.links.specs.Yards.{holds, spotsOf, sizeOf, gaugeOf, Laid, Beyond}
 
 abbrev pub nobody : Vehicle
 nobody = record { exit = 0; since = 0 }
@@ -41,6 +42,8 @@ taking net i j x = cond (is (next net i x) j) (x ∷ []) []
 -- a vehicle for x has come on the link after i
 pub record Gone (net : Net) (t i x : ℕ) (y y′ : Yard) : Type 0 where
   pub to : (j : ℕ) → j < 96 → holds y′ j ≡ holds y j ++ stamped t (taking net i j x)
+  pub spots : (j : ℕ) → j < 96 → spotsOf y′ j ≡ written (spotsOf y j) (stamped t (taking net i j x))
+  pub beyond : Beyond y y′
   pub sizes : (l : ℕ) → sizeOf y′ l ≡ sizeOf y l
   pub gauges : (i : ℕ) → gaugeOf y′ i ≡ gaugeOf y i
   pub laid : Laid y′
@@ -50,6 +53,9 @@ pub record Gone (net : Net) (t i x : ℕ) (y y′ : Yard) : Type 0 where
 pub record Sent (net : Net) (t i : ℕ) (vs : List Vehicle) (y y′ : Yard) : Type 0 where
   pub from : holds y i ≡ vs ++ holds y′ i
   pub to : (j : ℕ) → j < 96 → j ≢ i → holds y′ j ≡ holds y j ++ stamped t (going net i j vs)
+  pub stay : spotsOf y′ i ≡ spotsOf y i
+  pub spots : (j : ℕ) → j < 96 → j ≢ i → spotsOf y′ j ≡ written (spotsOf y j) (stamped t (going net i j vs))
+  pub beyond : Beyond y y′
   pub sizes : (l : ℕ) → sizeOf y′ l ≡ sizeOf y l
   pub gauges : (i : ℕ) → gaugeOf y′ i ≡ gaugeOf y i
   pub laid : Laid y′
@@ -67,6 +73,8 @@ upTo n j x = cond (ltb j n) x 0
 -- the links below n have sent k each
 pub record SentAll (net : Net) (t : ℕ) (k : ℕ → ℕ) (n : ℕ) (y y′ : Yard) : Type 0 where
   pub to : (j : ℕ) → j < 96 → holds y′ j ≡ drop (upTo n j (k j)) (holds y j) ++ stamped t (cameBy net (holds y) k n j)
+  pub spots : (j : ℕ) → j < 96 → spotsOf y′ j ≡ written (spotsOf y j) (stamped t (cameBy net (holds y) k n j))
+  pub beyond : Beyond y y′
   pub sizes : (l : ℕ) → sizeOf y′ l ≡ sizeOf y l
   pub gauges : (i : ℕ) → gaugeOf y′ i ≡ gaugeOf y i
   pub laid : Laid y′
@@ -87,6 +95,9 @@ pub record Pulled (t j : ℕ) (vs : List Vehicle) (y y′ : Yard) : Type 0 where
   pub from : holds y (48 + j) ≡ vs ++ holds y′ (48 + j)
   pub on : holds y′ j ≡ holds y j ++ stamped t (exits vs)
   pub others : (l : ℕ) → l < 96 → l ≢ j → l ≢ 48 + j → holds y′ l ≡ holds y l
+  pub spots : spotsOf y′ j ≡ written (spotsOf y j) (stamped t (exits vs))
+  pub rests : (l : ℕ) → l < 96 → l ≢ j → spotsOf y′ l ≡ spotsOf y l
+  pub beyond : Beyond y y′
   pub sizes : (l : ℕ) → sizeOf y′ l ≡ sizeOf y l
   pub gauges : (i : ℕ) → gaugeOf y′ i ≡ gaugeOf y i
   pub laid : Laid y′
@@ -96,6 +107,9 @@ pub record Pulled (t j : ℕ) (vs : List Vehicle) (y y′ : Yard) : Type 0 where
 pub record PulledAll (t : ℕ) (k : ℕ → ℕ) (n : ℕ) (y y′ : Yard) : Type 0 where
   pub from : (j : ℕ) → j < 48 → holds y′ (48 + j) ≡ drop (upTo n j (k j)) (holds y (48 + j))
   pub on : (j : ℕ) → j < 48 → holds y′ j ≡ holds y j ++ stamped t (exits (take (upTo n j (k j)) (holds y (48 + j))))
+  pub spots : (j : ℕ) → j < 48 → spotsOf y′ j ≡ written (spotsOf y j) (stamped t (exits (take (upTo n j (k j)) (holds y (48 + j)))))
+  pub rests : (j : ℕ) → j < 48 → spotsOf y′ (48 + j) ≡ spotsOf y (48 + j)
+  pub beyond : Beyond y y′
   pub sizes : (l : ℕ) → sizeOf y′ l ≡ sizeOf y l
   pub gauges : (i : ℕ) → gaugeOf y′ i ≡ gaugeOf y i
   pub laid : Laid y′
@@ -105,6 +119,12 @@ pub record PulledAll (t : ℕ) (k : ℕ → ℕ) (n : ℕ) (y y′ : Yard) : Typ
 pub record Shifted (net : Net) (t : ℕ) (r k : ℕ → ℕ) (y y′ : Yard) : Type 0 where
   pub cars : (j : ℕ) → j < net .links → holds y′ j ≡ drop (k j) (holds y j) ++ stamped t (exits (take (r j) (holds y (48 + j))) ++ cameBy net (holds y) k (net .links) j)
   pub waits : (j : ℕ) → j < net .links → holds y′ (48 + j) ≡ drop (r j) (holds y (48 + j))
+  -- what the slots hold: those that came are written behind each other, round the lane
+  pub spots : (j : ℕ) → j < net .links → spotsOf y′ j ≡ written (spotsOf y j) (stamped t (exits (take (r j) (holds y (48 + j))) ++ cameBy net (holds y) k (net .links) j))
+  pub rests : (j : ℕ) → j < 48 → spotsOf y′ (48 + j) ≡ spotsOf y (48 + j)
+  pub beyond : Beyond y y′
+  -- places with no link
+  pub idle : (j : ℕ) → net .links ≤ j → j < 48 → (holds y′ j ≡ holds y j) × (holds y′ (48 + j) ≡ holds y (48 + j)) × (spotsOf y′ j ≡ spotsOf y j)
   pub sizes : (l : ℕ) → sizeOf y′ l ≡ sizeOf y l
   pub gauges : (i : ℕ) → gaugeOf y′ i ≡ gaugeOf y i
   pub laid : Laid y′

@@ -4,7 +4,7 @@ use mathlib.Core.Logic.{⊎-elim, _≢_}
 use Prim.Native.Nat.{ℕ, _+_, _≤_, _<_}
 use native.Mathlib.Omega.{arith}
 use denote.Ref.{now, name}
-use lib.ListN.{length}
+use lib.ListN.{length, getD}
 use Rattle.std.specs.declared.option.Option.{Option}
 use Rattle.std.proofs.shelf.Tests.{cases-eq}
 use Rattle.line.specs.Parts.{Sound}
@@ -15,7 +15,8 @@ use Rattle.links.specs.declared.records.Change.the-variants.{Readings}
 use Rattle.links.specs.declared.records.Yard.{Yard}
 use Rattle.links.specs.Readings.{Full}
 use Rattle.links.specs.Tables.{laneAt, recordAt, gaugeIn, Changed}
-use Rattle.links.specs.Yards.{inLane, holds, sizeOf, gaugeOf, Laid, AllFull, NotedAt}
+use Rattle.line.specs.Spots.{spotsIn}
+use Rattle.links.specs.Yards.{inLane, holds, startOf, sizeOf, spotsOf, gaugeOf, Laid, AllFull, NotedAt}
 use Rattle.links.proofs.Marking.{lanes-same, part-same}
 
 module _ (y y′ : Yard) (i on off : ℕ) (time : Option ℕ) (b : i < 48) (full : AllFull y)
@@ -37,7 +38,7 @@ module _ (y y′ : Yard) (i on off : ℕ) (time : Option ℕ) (b : i < 48) (full
   }
 
   pub noted-at : NotedAt y i on off time y′
-  unfolding holds sizeOf
+  unfolding holds startOf sizeOf spotsOf
   noted-at = record {
     here = wrote .here .noted;
     others = λ k ne. ap gaugeIn (wrote .others k ne);
@@ -48,6 +49,13 @@ module _ (y y′ : Yard) (i on off : ℕ) (time : Option ℕ) (b : i < 48) (full
     };
     lanes = lanes;
     holds = λ l. ap (inLane (now (y′ .area))) (lanes l) ∙ ap (λ a. inLane a (laneAt (y .table) l)) area;
+    spots = λ l. ap (λ (x : Lane). spotsIn (now (y′ .area)) (x .start) (x .size) (x .mark)) (lanes l) ∙ ap (λ a. spotsIn a (laneAt (y .table) l .start) (laneAt (y .table) l .size) (laneAt (y .table) l .mark)) area;
+    beyond = record {
+      starts = λ l. ap (λ (x : Lane). x .start) (lanes l);
+      sizes = λ l. ap (λ (x : Lane). x .size) (lanes l);
+      wide = ap length area;
+      outside = λ q d f. ap (λ a. getD a q d) area;
+    };
     sizes = λ l. ap (λ (x : Lane). x .size) (lanes l);
     laid = relaid;
     area = area;

@@ -5,9 +5,10 @@ ghost use Prim.Native.Nat.{_<_, _≤_};
 ghost use denote.Ref.{name};
 ghost use lib.ListN.{getD, length};
 ghost use Rattle.line.specs.Ring.{first, rest};
+ghost use Rattle.line.specs.Spots.{wrote};
 ghost use Rattle.links.specs.Readings.{back as ago};
 ghost use Rattle.links.specs.Tables.{laneNo};
-ghost use Rattle.links.specs.Yards.{holds, sizeOf, gaugeOf, Laid, Put, AllFull, NotedAt};
+ghost use Rattle.links.specs.Yards.{holds, spotsOf, sizeOf, gaugeOf, Laid, Put, AllFull, NotedAt};
 use crate::records::Change;
 use crate::records::Side;
 use crate::records::Yard;
@@ -23,6 +24,7 @@ impl<'a> Yard<'a> {
         requires laid { ⌜ Laid (now self) ⌝ }
         ensures told { λ r. ⌜ r ≡ first (holds (now (self .entry)) (laneNo side i)) ⌝ }
         ensures put { λ _. ⌜ Put (now (self .entry)) (now (self .exit)) (laneNo side i) (rest (holds (now (self .entry)) (laneNo side i))) ⌝ }
+        ensures spots { λ _. ⌜ spotsOf (now (self .exit)) (laneNo side i) ≡ spotsOf (now (self .entry)) (laneNo side i) ⌝ }
         ensures same { λ _. ⌜ name (now (self .exit) .area) ≡ name (now (self .entry) .area) ⌝ }
     {
         let lane = self.table.lane(side, i);
@@ -38,6 +40,7 @@ impl<'a> Yard<'a> {
         requires laid { ⌜ Laid (now self) ⌝ }
         requires room { ⌜ length (holds (now self) (laneNo side i)) < sizeOf (now self) (laneNo side i) ⌝ }
         ensures put { λ _. ⌜ Put (now (self .entry)) (now (self .exit)) (laneNo side i) (holds (now (self .entry)) (laneNo side i) ++ v ∷ []) ⌝ }
+        ensures spots { λ _. ⌜ spotsOf (now (self .exit)) (laneNo side i) ≡ wrote (spotsOf (now (self .entry)) (laneNo side i)) v ⌝ }
         ensures same { λ _. ⌜ name (now (self .exit) .area) ≡ name (now (self .entry) .area) ⌝ }
     {
         let lane = self.table.lane(side, i);

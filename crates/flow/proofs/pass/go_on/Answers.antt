@@ -12,4 +12,4 @@ pub returns-in-None : need.returns-in-None
 returns-in-None c = gone-none (netOf (c .args .net .now)) (c .args .t) (c .args .i) (c .args .x) (c .args .yard .now) (c .in-None .ensures tt) (c .pre .laid)
 
 pub returns-in-Some : need.returns-in-Some
-returns-in-Some c = gone-some (netOf (c .args .net .now)) (c .args .t) (c .args .i) (c .args .x) (c .in-Some .j) (c .args .yard .now) _ (c .in-Some .ensures tt) (c .push .ensures .put)
+returns-in-Some c = gone-some (netOf (c .args .net .now)) (c .args .t) (c .args .i) (c .args .x) (c .in-Some .j) (c .args .yard .now) _ (c .in-Some .ensures tt) (c .push .ensures .put) (c .push .ensures .spots)

@@ -48,7 +48,7 @@ returns-in-Some c =
     let e = c .in-Some .ensures tt .told in
     let q = leads net (c .args .t) (c .args .i) (holds y (c .args .i)) v e in
     record {
-      sent = sent-one net (c .args .t) (c .args .i) y (c .take .last .self) (c .go-on .last .yard) v (omega (arith, c .pre .link, right-of (c .args .net .now) .count)) e (c .in-Some .ensures tt .put) (c .go-on .ensures)
+      sent = sent-one net (c .args .t) (c .args .i) y (c .take .last .self) (c .go-on .last .yard) v (omega (arith, c .pre .link, right-of (c .args .net .now) .count)) e (c .in-Some .ensures tt .put) (c .in-Some .ensures tt .spots) (c .go-on .ensures)
           (λ f. c .pre .room (c .args .i) f .1 refl);
       time = ap (λ (u : Vehicle). c .args .t + 1 - u .since) q;
     }

@@ -20,4 +20,4 @@ pub returns-in-None : need.returns-in-None
 returns-in-None c = absurd (none-leads (holds (c .args .yard .now) (48 + c .args .j)) (c .in-None .ensures tt .told) (c .pre .some))
 
 pub returns-in-Some : need.returns-in-Some
-returns-in-Some c = pulled-one (c .args .t) (c .args .j) (c .pre .link) (c .args .yard .now) (c .take .last .self) (c .push .last .self) (c .in-Some .v) (c .in-Some .ensures tt .told) (c .in-Some .ensures tt .put) (c .push .ensures .put)
+returns-in-Some c = pulled-one (c .args .t) (c .args .j) (c .pre .link) (c .args .yard .now) (c .take .last .self) (c .push .last .self) (c .in-Some .v) (c .in-Some .ensures tt .told) (c .in-Some .ensures tt .put) (c .in-Some .ensures tt .spots) (c .push .ensures .put) (c .push .ensures .spots)

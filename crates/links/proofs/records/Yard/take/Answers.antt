@@ -2,7 +2,7 @@ use mathlib.Core.Path.{refl, _∙_, ap}
 use Rattle.line.specs.Ring.{first, rest}
 use Rattle.links.specs.Tables.{laneNo}
 use Rattle.links.specs.Yards.{holds}
-use Rattle.links.proofs.Changing.{lane-few, placed-of, sound-of, holds-of, put-of}
+use Rattle.links.proofs.Changing.{lane-few, placed-of, sound-of, holds-of, took, took-spots}
 use Rattle.links.proofs.records.Yard.take.Needs as need
 
 pub take-in-v-requires : need.take-in-v-requires
@@ -22,9 +22,11 @@ returns c =
     let l = c .lane-lane .result in
     let e = c .lane-lane .ensures in
     let t = c .take-in-v .ensures in
+    let m = c .take-in-v .last .mark in
     let h = holds-of y k l e in
     record {
       told = t .told ∙ ap first h;
-      put = put-of y _ k l (c .take-in-v .last .mark) (rest (holds y k)) b (c .pre .laid) e (c .mark .ensures) (t .sound) (t .around) (c .take-in-v .kept .area) (t .holds ∙ ap rest h) refl;
+      put = took y _ k l m b (c .pre .laid) e (c .mark .ensures) refl (t .sound) (t .area) (rest (holds y k)) (t .holds ∙ ap rest h);
+      spots = took-spots y _ k l m b (c .pre .laid) e (c .mark .ensures) refl (t .sound) (t .area) (t .head) (t .len);
       same = refl;
     }
