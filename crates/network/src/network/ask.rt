@@ -42,8 +42,16 @@ impl Network {
         self.layout.links[i].capacity
     }
 
+    // The free steps of a link.
+    pub fn free(&self, i: usize) -> u8
+        requires { ⌜ i < netOf (now self) .links ⌝ }
+        ensures { λ r. ⌜ r ≡ netOf (now (self .entry)) .link i .free ⌝ }
+    {
+        self.layout.links[i].free
+    }
+
     // The node where a link ends.
-    fn end(&self, i: usize) -> u8
+    pub fn end(&self, i: usize) -> u8
         requires { ⌜ i < netOf (now self) .links ⌝ }
         ensures { λ r. ⌜ r ≡ netOf (now (self .entry)) .link i .to ⌝ }
     {

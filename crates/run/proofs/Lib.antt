@@ -1,0 +1,4 @@
+pub mod Laying
+pub mod Booking
+pub mod Props
+pub mod Answering
