@@ -15,7 +15,7 @@ import subprocess
 import sys
 import tempfile
 
-from corridors import MOST_NODES, dress, lattice, shape
+from corridors import MOST_NODES, dress, flowing, lattice, shape, uniform
 
 LIMIT = 65_535
 ALL = [1, 2, 3, 4, 11, 12, 13, 14, 15, 21, 22, 23, 24, 25, 31, 32, 33, 34, 35, 36, 37]
@@ -36,7 +36,8 @@ EDGES = [
     (b"net 4 3\n", "no 15 2 8"), (b"net 4 3\n\n", "no 3 2 8"), (b"7 4 3\n", "no 11 1 0"), (b"00\n", "no 11 1 0"), (b"nets\n", "no 11 1 0"),
     (b"show\n", "no 12 1 0"), (b"book\n", "no 12 1 0"), (b"net 4\n", "no 13 1 0"), (b"net 04 3\n", "no 14 1 4"), (b"net 4 00\n", "no 14 1 6"),
     (b"net 0 0\n", "no 14 1 4"), (b"net 1 1\n", "no 14 1 4"), (b"net 33 49\n", "no 14 1 4"), (b"net 32 49\n", "no 14 1 7"),
-    (b"net 32 48\n", "no 15 2 10"), (b"net 12345678901234567890 3\n", "no 14 1 4"), (b"net 4 65536\n", "no 14 1 6"),
+    (b"net 32 48\n", "no 15 2 10"), (b"net 12345678901234567890 3\n", "no 14 1 4"),
+    (b"net 65540 3\n", "no 14 1 4"), (b"net 4294967300 3\n", "no 14 1 4"), (b"net 18446744073709551620 3\n", "no 14 1 4"), (b"net 4 65536\n", "no 14 1 6"),
     (b"net 4 3\nlink 9 3 0 2 4 12\n", "no 14 2 13"), (b"net 4 3\nlink 3 1 0 2 4 12\n", "no 14 2 17"), (b"net 4 3\nlink 3 1 1 2 4 12\n", "no 21 2 8"),
     (b"net 4 3\nlink 2 2 1 2 4 12\n", "no 21 2 8"), (b"net 4 3\nlink 1 2 63 63 200 2000\n", "no 15 3 32"), (b"net 4 3\nlink 1 2 64 1 1 1\n", "no 14 2 17"),
     (b"net 4 3\nlink 1 2 1 64 1 1\n", "no 14 2 19"), (b"net 4 3\nlink 1 2 1 1 201 1\n", "no 14 2 21"), (b"net 4 3\nlink 1 2 1 1 1 2001\n", "no 14 2 23"),
@@ -45,6 +46,7 @@ EDGES = [
     (WORKED[:-5] + b"fairs\n", "no 14 5 66"), (WORKED[:-5] + b"1\n", "no 14 5 66"), (WORKED[:60] + b"go\n", "no 12 5 60"),
     (WORKED[:60] + b"meter 3 1 1\n", "no 12 5 60"), (WORKED + b"route 3 4 3\n", "no 12 6 71"), (WORKED[:60] + b"route 3 4 3\n", "no 23 5 60"),
     (WORKED + b"meter 1 1 1\n", "no 25 6 71"), (WORKED + b"meter 3 1 1\nmeter 3 2 2\n", "no 24 7 83"), (WORKED + b"meter 3 201 64\n", "no 14 6 79"),
+    (WORKED + b"meter 3 200 64\n", "no 14 6 83"), (WORKED + b"meter 3 200 63\n", "no 15 7 86"), (WORKED + b"meter 3 0 1\n", "no 14 6 79"),
     (WORKED + b"meter 5 1 1\n", "no 14 6 77"), (WORKED + b"go 1\n", "no 13 6 71"), (WORKED + b"go", "no 4 6 73"),
     (FORK + b"route 2 3 1\n", "no 23 5 59"), (FORK + b"route 2 1 2\n", "no 23 5 59"), (FORK + b"route 2 3 4\n", "no 14 5 69"),
     (FORK + b"route 2 3 2\nroute 2 3 2\n", "no 24 6 71"), (FORK + b"route 2 3 2\nroute 2 3 1\n", "no 23 6 71"),
@@ -79,7 +81,7 @@ def any_corridor(rng, room=4000):
     pairs = lattice(15) if rng.random() < 0.02 else shape(rng, nodes, rng.choice((1, 2, 3, 7)), rng.choice((0.3, 1, 1, 4)))
     most = rng.choice(((3, 3, 4, 12), (2, 2, 3, 4), (5, 8, 12, 60), (63, 63, 200, 2000), (1, 1, 1, 1), (9, 63, 30, 400), (63, 4, 200, 900)))
     least = (1, 1, 1, 1) if rng.random() < 0.8 else tuple(max(1, m * 3 // 4) for m in most)
-    return dress(rng, pairs, most, least, room, routed=rng.choice((1, 1, 0.9, 0.5)), metered=rng.choice((0, 0.3, 1)))
+    return dress(rng, pairs, uniform(most, least), room, routed=rng.choice((1, 1, 0.9, 0.5)), metered=rng.choice((0, 0.3, 1)))
 
 
 def booking(rng, pairs):
@@ -115,6 +117,21 @@ def tasks(rng, corridor):
 def sound(rng):
     corridor = any_corridor(rng)
     return text(corridor.head() + tasks(rng, corridor))
+
+
+def busy(rng):
+    """More traffic than fits, in small mixed lots: queues at every kind of node, in which the order of vehicles tells."""
+    pairs = lattice(rng.randint(1, 15)) if rng.random() < 0.1 else shape(rng, rng.randint(5, MOST_NODES), rng.choice((2, 3, 4)), 3)
+    corridor = dress(rng, pairs, flowing, metered=rng.choice((0, 0.3)))
+    served = corridor.served()
+    rows = []
+    for _ in range(rng.randint(10, 60)):
+        lots = rng.choices(served, k=rng.randint(2, 8)) if served and rng.random() < 0.9 else []
+        rows += [f"book {e} {x} {rng.randint(1, 4)}" for e, x in lots]
+        rows.append(f"step {rng.randint(1, 3)}")
+        if rng.random() < 0.2:
+            rows.append("show")
+    return text(corridor.head() + rows + ["show", "step 30", "show"])
 
 
 def long_file(rng):
@@ -251,7 +268,7 @@ def damaged(rng):
     return data
 
 
-KINDS = [(sound, 45), (damaged, 45), (crowded, 4), (soup, 5), (long_file, 0.5)]
+KINDS = [(sound, 25), (busy, 20), (damaged, 45), (crowded, 4), (soup, 5), (long_file, 0.5)]
 
 
 def run(program, data_file, seconds):
@@ -316,7 +333,7 @@ def main():
         kinds[kind.__name__] += 1
         data = kind(rng)
         printed = check(f"case-{options.seed}-{case}", data)
-        if kind is sound and any(line.startswith(b"no ") and int(line.split()[1]) <= 31 for line in printed.split(b"\n")):
+        if kind in (sound, busy) and any(line.startswith(b"no ") and int(line.split()[1]) <= 31 for line in printed.split(b"\n")):
             report(f"unsound-{options.seed}-{case}", data, [printed], ["printed"])
 
     print(f"{len(EDGES)} fixed cases, {options.cases} random ones with seed {options.seed}:",

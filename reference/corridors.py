@@ -93,15 +93,23 @@ def lattice(pairs_of_branches):
     return pairs
 
 
-def dress(rng, pairs, most=(63, 63, 200, 2000), least=(1, 1, 1, 1), room=4000, rule=None, routed=1.0, metered=0.3):
-    """A corridor of this shape with random links within bounds, J cut so that it fits the room, routes and meters."""
+def uniform(most, least=(1, 1, 1, 1)):
+    """f, b, Q and J at random within bounds."""
+    return lambda rng: tuple(rng.randint(lo, hi) for lo, hi in zip(least, most))
+
+
+def flowing(rng):
+    """Short links of small capacities with storage enough to pass them, so that queues come from the nodes."""
+    f, b, q = rng.randint(1, 4), rng.randint(1, 4), rng.choice((1, 2, 3, 4, 6))
+    return f, b, q, q * (f + b) + rng.choice((0, 0, 1, 5))
+
+
+def dress(rng, pairs, numbers, room=4000, rule=None, routed=1.0, metered=0.3):
+    """A corridor of this shape, its links by `numbers` with J cut until they fit the room, with routes and meters."""
     nodes = max(to for _, to in pairs)
-    links = [(a, b, *(rng.randint(lo, hi) for lo, hi in zip(least, most))) for a, b in pairs]
-    spare = room - Corridor(nodes, links).room_needed()
-    while spare < 0 and any(link[5] > 1 for link in links):
-        links = [(*link[:5], max(1, link[5] // 2)) for link in links]
-        spare = room - Corridor(nodes, links).room_needed()
-    bare = Corridor(nodes, links)
+    bare = Corridor(nodes, [(*pair, *numbers(rng)) for pair in pairs])
+    while bare.room_needed() > room and any(link[5] > 1 for link in bare.links):
+        bare.links = [(*link[:5], max(1, link[5] // 2)) for link in bare.links]
     routes = []
     for n in bare.diverges:
         for x in bare.exits:
@@ -112,4 +120,4 @@ def dress(rng, pairs, most=(63, 63, 200, 2000), least=(1, 1, 1, 1), room=4000, r
     meters = [(n, rng.choice((1, 1, 2, 3, rng.randint(1, 200))), rng.choice((1, 2, 3, 5, rng.randint(1, 63))))
               for n in bare.merges if rng.random() < metered]
     rng.shuffle(meters)
-    return Corridor(nodes, links, routes, rule or rng.choice(("fair", "ramp", "zip")), meters)
+    return Corridor(nodes, bare.links, routes, rule or rng.choice(("fair", "ramp", "zip")), meters)
