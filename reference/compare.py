@@ -4,7 +4,7 @@
     reference/compare.py target/bin/corridor corridor-reference --cases 5000 --seed 7
 
 Prints the cases run, how often each refusal was seen, and every difference with the file saved. Exit 1 on a difference.
-A case depends on the seed and its own number alone: `--first 1234 --cases 1` runs one again.
+A case depends on `--seed` and its own number alone: `--first 1234 --cases 1` runs one again.
 """
 
 import argparse
