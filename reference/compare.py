@@ -196,7 +196,7 @@ def wrong_network(rng, corridor, rows):
 
 def spoil_rows(rng, rows):
     i, j = rng.randrange(len(rows)), rng.randrange(len(rows))
-    words = rows[i].split()
+    words = rows[i].split() or [""]
     w = rng.randrange(len(words))
     choice = rng.randrange(10)
     if choice == 0:
