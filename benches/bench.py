@@ -8,6 +8,9 @@ Times are the process's own processor time (user and system), best and median of
 over the second's. `--count` counts instructions in place of seconds, with perf where it may count, else with valgrind, on shorter
 runs. Both programs must print the same, else exit 1.
 
+How far to trust a ratio: two builds of one and the same source, on a busy machine with two repeats, came out between 0.88 and 1.25
+by time, and between 0.99 and 1.02 by instructions. Use more repeats on a quiet machine, or --count, for anything closer than that.
+
 The loads. A file has at most 65,535 bytes and a booking at most 200 vehicles, so a file brings in at most some 550,000 vehicles:
 over 1,000,000 steps that is about one vehicle in two steps. In `heavy` and `longest` the links into the exits let just that many
 through, so that queues stand on every walk in nearly every step.
