@@ -1,0 +1,11 @@
+// The rows of a corridor file: their names, their order, their words and what they say.
+pub mod fault;
+pub mod kind;
+pub mod row;
+pub mod rule;
+
+pub use fault::RowFault;
+pub use kind::Kind;
+pub use kind::Stage;
+pub use row::Row;
+pub use rule::Choice;
