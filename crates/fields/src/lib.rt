@@ -1,0 +1,2 @@
+// Reads a row: its name, and the words behind it.
+pub mod fields;
