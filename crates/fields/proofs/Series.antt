@@ -10,7 +10,7 @@ use lib.Chars.{codes}
 use lib.ListN.{length, getD, drop, take, set}
 use Rattle.std.specs.Written.{decimal}
 use Rattle.std.proofs.shelf.Decimals.{same-from-decimal}
-use Rattle.std.proofs.shelf.Lists.{append-assoc, take-more-set, take-all, map-push, map-more, take-map, length-set, drop-all, append-nil, nil-from-length, length-map, drop-more, getD-map}
+use Rattle.std.proofs.shelf.Lists.{append-assoc, take-more-set, take-all, length-take-le, map-push, map-more, take-map, length-set, drop-all, append-nil, nil-from-length, length-map, drop-more, getD-map}
 use Rattle.std.proofs.shelf.Tests.{eq-eqb, ne-eqb, le-leb, lt-leb, cond-true, cond-false, cases-eq, cases-lt}
 use Rattle.words.specs.Lines.{Spot, spot, line, words, wordsAt, endAt}
 use Rattle.words.specs.Tables.{First, Never}
@@ -18,13 +18,14 @@ use Rattle.words.specs.Texts.{texts}
 use Rattle.words.specs.Tokens.{Taken, behind}
 use Rattle.words.proofs.Cuts.{words-space, words-other, grow}
 use Rattle.rows.specs.Kinds.{countOf}
-use Rattle.rows.specs.Rows.{Field, number, rule, written, ruleText}
-use Rattle.rows.specs.Wants.{Want, between, wants, ruleName, Allows, Allowed, Fits, Unfit}
+use Rattle.rows.specs.Rows.{Field, number, rule, written, ruleText, kindOf, fieldsOf}
+use Rattle.rows.specs.Wants.{Want, between, wants, ruleName, Allows, Allowed, Ranged, Fits, Unfit}
 use Rattle.rows.specs.declared.kind.Kind.{Kind}
-use Rattle.rows.specs.declared.kind.Kind.the-variants.{Merge}
-use Rattle.rows.specs.declared.rule.Choice.{Choice}
+use Rattle.rows.specs.declared.kind.Kind.the-variants.{Link, Merge}
+use Rattle.merge.specs.declared.choice.Choice.{Choice}
+use Rattle.rows.specs.declared.row.Row.{Row}
 use Rattle.fields.specs.declared.fields.Range.{Range}
-use Rattle.fields.specs.Taking.{want, numbered, Within, leftOf}
+use Rattle.fields.specs.Taking.{want, numbered, Within, leftOf, Narrow}
 
 pub no-fit : (t : List ℕ) (v lo hi : ℕ) → t ≡ decimal v → v < 65536 → hi < 65536 → (lo ≤ v → v ≤ hi → ⊥) → Fits (between lo hi) t → ⊥
 no-fit t v lo hi e small top out (number n, is, ranged) =
@@ -188,3 +189,82 @@ wanted rs i d h =
 
 pub wanted-so-far : (rs : List Range) (i : ℕ) (d : Range) → i < length rs → take (i + 1) (map want rs) ≡ take i (map want rs) ++ want (getD rs i d) ∷ []
 wanted-so-far rs i d h = take-map want (i + 1) rs ∙ map-more want rs i d h ∙ ap (λ (x : List Want). x ++ want (getD rs i d) ∷ []) (sym (take-map want i rs))
+
+left-one : (file : List ℕ) (e p p′ : ℕ) (w : Spot) → Within file e p → length (leftOf file e p) ≡ 1 → Taken file p p′ w → leftOf file e p ≡ w ∷ []
+left-one file e p p′ w in′ one t =
+    ⊎-elim
+    (λ over. absurd (omega (arith, ap length (left-out file e p over))))
+    (λ inside.
+    let step = left-taken file e p p′ w (in′ .at inside) t in
+    step .0 ∙ ap (λ (ws : List Spot). w ∷ ws) (nil-from-length (leftOf file e p′) (omega (arith, ap length (step .0)))))
+    (cases-lt e p)
+
+pub rule-good : (file : List ℕ) (e p p′ nodes links : ℕ) (kind : Kind) (r : Choice) (w : Spot) → kind ≡ Merge → Within file e p → length (leftOf file e p) + 1 ≡ countOf kind → Taken file p p′ w → w .text ≡ ruleText r → (Merge ≡ kind) × (texts (leftOf file e p) ≡ ruleText r ∷ []) × (Unit {0} × Unit {0})
+rule-good file e p p′ nodes links kind r w is in′ n t named =
+    let l = left-one file e p p′ w in′ (omega (arith, ap countOf is)) t in
+    (sym is, ap texts l ∙ ap (λ (x : List ℕ). x ∷ []) named, (tt, tt))
+
+pub rule-bad : (file : List ℕ) (e p p′ nodes links : ℕ) (kind : Kind) (w : Spot) → kind ≡ Merge → Within file e p → length (leftOf file e p) + 1 ≡ countOf kind → Taken file p p′ w → (Fits ruleName (w .text) → ⊥) → First (Unfit (wants nodes links kind) (leftOf file e p)) (w .place)
+rule-bad file e p p′ nodes links kind w is in′ n t bad =
+    let l = left-one file e p p′ w in′ (omega (arith, ap countOf is)) t in
+    subst (λ (k : Kind). First (Unfit (wants nodes links k) (leftOf file e p)) (w .place)) (sym is)
+    (subst (λ (ws : List Spot). First (Unfit (ruleName ∷ []) ws) (w .place)) (sym l)
+    (record { here = inl (refl, bad); before = λ k lt u. ⊎-elim (λ x. omega (arith, x .0)) (λ x. x) u }))
+
+pub six : (ns : List ℕ) → length ns ≡ 6 → number (getD ns 0 0) ∷ number (getD ns 1 0) ∷ number (getD ns 2 0) ∷ number (getD ns 3 0) ∷ number (getD ns 4 0) ∷ number (getD ns 5 0) ∷ [] ≡ numbered ns
+six [] h = absurd (omega arith)
+six (a ∷ []) h = absurd (omega arith)
+six (a ∷ b ∷ []) h = absurd (omega arith)
+six (a ∷ b ∷ c ∷ []) h = absurd (omega arith)
+six (a ∷ b ∷ c ∷ d ∷ []) h = absurd (omega arith)
+six (a ∷ b ∷ c ∷ d ∷ e ∷ []) h = absurd (omega arith)
+six (a ∷ b ∷ c ∷ d ∷ e ∷ f ∷ []) h = refl
+six (a ∷ b ∷ c ∷ d ∷ e ∷ f ∷ g ∷ ns) h = absurd (omega arith)
+
+narrow-six : (nodes links : ℕ) (ns : List ℕ) → nodes < 256 → length ns ≡ 6 → Allowed (wants nodes links Link) (numbered ns) → Narrow ns
+narrow-six nodes links [] few h a = absurd (omega arith)
+narrow-six nodes links (a ∷ []) few h x = absurd (omega arith)
+narrow-six nodes links (a ∷ b ∷ []) few h x = absurd (omega arith)
+narrow-six nodes links (a ∷ b ∷ c ∷ []) few h x = absurd (omega arith)
+narrow-six nodes links (a ∷ b ∷ c ∷ d ∷ []) few h x = absurd (omega arith)
+narrow-six nodes links (a ∷ b ∷ c ∷ d ∷ e ∷ []) few h x = absurd (omega arith)
+narrow-six nodes links (a ∷ b ∷ c ∷ d ∷ e ∷ f ∷ []) few h x = record {
+  from = omega (arith, x .0 .1);
+  to = omega (arith, x .1 .0 .1);
+  free = omega (arith, x .1 .1 .0 .1);
+  wave = omega (arith, x .1 .1 .1 .0 .1);
+  capacity = omega (arith, x .1 .1 .1 .1 .0 .1);
+}
+narrow-six nodes links (a ∷ b ∷ c ∷ d ∷ e ∷ f ∷ g ∷ ns) few h x = absurd (omega arith)
+
+-- a link row's numbers are narrow
+pub narrow : (nodes links k : ℕ) (kind : Kind) (ns : List ℕ) → nodes < 256 → length ns ≡ 6 → kind ≡ Link → k + 1 ≡ countOf kind → Allowed (wants nodes links kind) (numbered (take k ns)) → Narrow ns
+narrow nodes links k kind ns few six′ is count a =
+    let all : take k ns ≡ ns = take-all k ns (omega (arith, ap countOf is)) in
+    narrow-six nodes links ns few six′ (subst (λ (x : Kind). Allowed (wants nodes links x) (numbered ns)) is (subst (λ (x : List ℕ). Allowed (wants nodes links kind) (numbered x)) all a))
+
+-- what `numbers` gives of the first k ranges, by the kind's wants
+module _ (nodes links k : ℕ) (kind : Kind) (rs : List Range) (ns : List ℕ) (wide : length rs ≡ 6) (few : k ≤ 6) (count : k + 1 ≡ countOf kind) (same : map want (take k rs) ≡ wants nodes links kind) where
+  long : length (take (k - 0) rs) ≡ k
+  long = length-take-le (k - 0) rs (omega arith) ∙ omega arith
+
+  seen : map want (take (k - 0) rs) ≡ wants nodes links kind
+  seen = let z : k - 0 ≡ k = omega arith in ap (λ j. map want (take j rs)) z ∙ same
+
+  pub kind-first : (ws : List Spot) (q : ℕ) → First (Unfit (map want (take (k - 0) rs)) ws) q → First (Unfit (wants nodes links kind) ws) q
+  kind-first ws q = subst (λ (x : List Want). First (Unfit x ws) q) seen
+
+  allowed-kind : Allowed (map want (take (k - 0) rs)) (numbered (take (length (take (k - 0) rs)) ns)) → Allowed (wants nodes links kind) (numbered (take k ns))
+  allowed-kind a = subst (λ (x : List Want). Allowed x (numbered (take k ns))) seen (subst (λ j. Allowed (map want (take (k - 0) rs)) (numbered (take j ns))) long a)
+
+  pub narrow-link : nodes < 256 → length ns ≡ 6 → Allowed (map want (take (k - 0) rs)) (numbered (take (length (take (k - 0) rs)) ns)) → kind ≡ Link → Narrow ns
+  narrow-link few′ six′ a is = narrow nodes links k kind ns few′ six′ is count (allowed-kind a)
+
+  pub made-row : (row : Row) (ws : List Spot) → texts ws ≡ map written (numbered (take (length (take (k - 0) rs)) ns)) → Allowed (map want (take (k - 0) rs)) (numbered (take (length (take (k - 0) rs)) ns)) → kindOf row ≡ kind → fieldsOf row ≡ numbered (take (countOf kind - 1) ns) → (kindOf row ≡ kind) × (texts ws ≡ map written (fieldsOf row)) × Ranged nodes links row
+  made-row row ws e a is says =
+      let z : countOf kind - 1 ≡ k = omega arith in
+      let f : fieldsOf row ≡ numbered (take k ns) = says ∙ ap (λ j. numbered (take j ns)) z in (
+        is,
+        e ∙ ap (λ j. map written (numbered (take j ns))) long ∙ ap (map written) (sym f),
+        subst (λ (x : Kind). Allowed (wants nodes links x) (fieldsOf row)) (sym is) (subst (Allowed (wants nodes links kind)) (sym f) (allowed-kind a)),
+      )

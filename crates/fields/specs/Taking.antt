@@ -15,7 +15,7 @@ use Rattle.rows.specs.Rows.{Field, number, ruleText}
 use Rattle.rows.specs.Wants.{Want, between, ruleName, Allows, Fits, Unfit}
 use Rattle.rows.specs.declared.fault.RowFault.{RowFault}
 use Rattle.rows.specs.declared.fault.RowFault.the-variants.{Value}
-use Rattle.rows.specs.declared.rule.Choice.{Choice}
+use Rattle.merge.specs.declared.choice.Choice.{Choice}
 use Rattle.fields.specs.declared.fields.Range.{Range}
 
 abbrev pub want : Range → Want

@@ -9,8 +9,8 @@ use Rattle.rows.specs.declared.kind.Kind.{Kind}
 use Rattle.rows.specs.declared.kind.Kind.the-variants.{Net, Link, Route, Merge, Meter, Go, Book, Step, Show}
 use Rattle.rows.specs.declared.row.Row.{Row}
 use Rattle.rows.specs.declared.row.Row.the-variants as row
-use Rattle.rows.specs.declared.rule.Choice.{Choice}
-use Rattle.rows.specs.declared.rule.Choice.the-variants.{Fair, Ramp, Zip}
+use Rattle.merge.specs.declared.choice.Choice.{Choice}
+use Rattle.merge.specs.declared.choice.Choice.the-variants.{Fair, Ramp, Zip}
 
 pub data Field : Type 0 where
   number : ℕ → Field

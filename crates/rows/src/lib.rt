@@ -2,10 +2,8 @@
 pub mod fault;
 pub mod kind;
 pub mod row;
-pub mod rule;
 
 pub use fault::RowFault;
 pub use kind::Kind;
 pub use kind::Stage;
 pub use row::Row;
-pub use rule::Choice;

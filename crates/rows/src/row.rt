@@ -1,5 +1,5 @@
 // What a row says.
-use crate::rule::Choice;
+use merge::Choice;
 use network::Link;
 
 #[derive(Clone, Copy)]
