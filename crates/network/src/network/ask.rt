@@ -54,7 +54,7 @@ impl Network {
     }
 
     // The route row's link.
-    fn route(&self, n: usize, x: u8) -> Option<usize>
+    pub(super) fn route(&self, n: usize, x: u8) -> Option<usize>
         ensures { λ r. ⌜ r ≡ netOf (now (self .entry)) .route n x ⌝ }
     {
         let x = x as usize;

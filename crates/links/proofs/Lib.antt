@@ -1,0 +1,4 @@
+pub mod Turning
+pub mod Marking
+pub mod Changing
+pub mod Noting

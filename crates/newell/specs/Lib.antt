@@ -1,0 +1,5 @@
+pub mod Plain
+pub mod History
+pub mod Promise
+pub mod Least
+pub mod Now
