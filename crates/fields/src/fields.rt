@@ -13,8 +13,8 @@ ghost use Rattle.rows.specs.declared.kind.Kind.the-variants.{Merge, Link as Lin
 ghost use Rattle.merge.specs.declared.choice.Choice.{Choice as Rules};
 ghost use Rattle.rows.specs.declared.row.Row.the-variants as rowed;
 ghost use Rattle.fields.specs.Taking.{want, numbered, GotOne, GotRule, Judged, Within, leftOf, Narrow};
-use network::Link;
 use merge::Choice;
+use network::Link;
 use rows::Kind;
 use rows::Row;
 use rows::RowFault;

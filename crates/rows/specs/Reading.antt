@@ -9,6 +9,7 @@ use Rattle.std.specs.declared.result.Result.{Result}
 use Rattle.words.specs.Lines.{Spot, wordsAt, wordChecks}
 use Rattle.words.specs.Tables.{Check, Refuses}
 use Rattle.words.specs.Texts.{Stands}
+use Rattle.words.specs.declared.fault.Layer.the-variants as layer
 use Rattle.words.specs.declared.fault.Told.{Told}
 use Rattle.rows.specs.Faults.{rowTold}
 use Rattle.rows.specs.Kinds.{nameOf, countOf, inOrder}
@@ -36,10 +37,10 @@ behindName (w ∷ ws) = ws
 -- the checks of a row that starts at p and has the words ws
 abbrev pub rowChecks : Stage → ℕ → ℕ → ℕ → List Spot → List Check
 rowChecks stage nodes links p ws =
-    record { number = 11; fails = λ q. (q ≡ p) × ((k : Kind) → Named ws k → ⊥) }
-    ∷ record { number = 12; fails = λ q. (q ≡ p) × ((k : Kind) × Named ws k × (inOrder stage k ≡ false)) }
-    ∷ record { number = 13; fails = λ q. (q ≡ p) × ((k : Kind) × Named ws k × (length ws ≡ countOf k → ⊥)) }
-    ∷ record { number = 14; fails = λ q. (k : Kind) × Named ws k × Unfit (wants nodes links k) (behindName ws) q }
+    record { number = 11; layer = layer.Row; fails = λ q. (q ≡ p) × ((k : Kind) → Named ws k → ⊥) }
+    ∷ record { number = 12; layer = layer.Row; fails = λ q. (q ≡ p) × ((k : Kind) × Named ws k × (inOrder stage k ≡ false)) }
+    ∷ record { number = 13; layer = layer.Row; fails = λ q. (q ≡ p) × ((k : Kind) × Named ws k × (length ws ≡ countOf k → ⊥)) }
+    ∷ record { number = 14; layer = layer.Row; fails = λ q. (k : Kind) × Named ws k × Unfit (wants nodes links k) (behindName ws) q }
     ∷ []
 
 -- the checks of the line at place p: first those of its words
@@ -48,8 +49,9 @@ lineChecks file p stage nodes links = wordChecks file p ++ rowChecks stage nodes
 
 -- the table refuses the line l at place p, and the fault tells it
 pub record Refused (file : List ℕ) (p l : ℕ) (stage : Stage) (nodes links : ℕ) (t : Told) : Type 0 where
-  pub checks : Refuses (lineChecks file p stage nodes links) (t .number) (t .place)
+  pub checks : Refuses (lineChecks file p stage nodes links) t
   pub line : t .line ≡ l
+  pub node : t .node ≡ 0
 
 -- the line at place p reads as a row, and the reader stands at the next line; or it is refused, and the reader stays
 abbrev pub ReadRow : List ℕ → ℕ → ℕ → Stage → ℕ → ℕ → ℕ → ℕ → Result Row RowFault → Type 0

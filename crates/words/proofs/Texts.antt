@@ -57,8 +57,7 @@ line-stands file p ts h e =
     let bs = drop p file in
     let is : line bs ≡ spaced ts = sym (rejoined p (line bs)) ∙ ap spaced e in
     let parts = fed bs (omega (arith, length-drop p file)) in
-    let whole : bs ≡ lineOf ts ++ parts .0 = parts .1 ∙ ap (λ (x : List ℕ). (x ++ (10 ∷ [])) ++ parts .0) is in
-    (
+    let whole : bs ≡ lineOf ts ++ parts .0 = parts .1 ∙ ap (λ (x : List ℕ). (x ++ (10 ∷ [])) ++ parts .0) is in (
       ap (take (length (lineOf ts))) whole ∙ take-at (lineOf ts) (parts .0) (length (lineOf ts)) refl,
       omega (arith, ap length is, length-append (spaced ts) (10 ∷ [])),
     )

@@ -52,8 +52,7 @@ pub returns : need.returns
 returns c =
     let n = length-map (c .args .ranges .now) want in
     let d = going-done _ _ _ (map want (c .args .ranges .now)) _ _ _ (c .loop-i .inv .3) (omega arith) in
-    let e : c .loop-i .i ≡ length (c .args .ranges .now) = omega arith in
-    (
+    let e : c .loop-i .i ≡ length (c .args .ranges .now) = omega arith in (
       d .0 ∙ ap (λ k. map written (numbered (take k (c .loop-i .out)))) e,
       subst (λ k. Allowed (map want (c .args .ranges .now)) (numbered (take k (c .loop-i .out)))) e (d .1),
       c .loop-i .inv .2,
