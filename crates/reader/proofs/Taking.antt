@@ -252,3 +252,10 @@ got-as file l₀ p₀ l p stage nodes links s s′ e g = subst (Got file l₀ p�
 
 pub meter-ranges : (nodes links n u t : ℕ) → nodes ≤ 32 → Ranged nodes links (Meter n u t) → ((1 ≤ n) × (n ≤ 32)) × (((1 ≤ u) × (u ≤ 200)) × ((1 ≤ t) × (t ≤ 63)))
 meter-ranges nodes links n u t few a = ((a .0 .0, omega (arith, a .0 .1)), (a .1 .0, a .1 .1 .0))
+
+-- the same rows, of an equal file
+pub got-in : (file f : List ℕ) (l₀ p₀ l p : ℕ) (stage : Stage) (nodes links : ℕ) (s : Said) → file ≡ f → Got file l₀ p₀ l p stage nodes links s → Got f l₀ p₀ l p stage nodes links s
+got-in file f l₀ p₀ l p stage nodes links s e g = subst (λ (x : List ℕ). Got x l₀ p₀ l p stage nodes links s) e g
+
+pub network-in : (file f : List ℕ) (l₀ p₀ : ℕ) (s : Said) (l p l′ p′ : ℕ) → file ≡ f → files.Network file l₀ p₀ s l p l′ p′ → files.Network f l₀ p₀ s l p l′ p′
+network-in file f l₀ p₀ s l p l′ p′ e n = subst (λ (x : List ℕ). files.Network x l₀ p₀ s l p l′ p′) e n

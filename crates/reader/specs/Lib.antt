@@ -4,3 +4,4 @@ pub mod Faults
 pub mod Files
 pub mod Fresh
 pub mod Heads
+pub mod Calls
