@@ -1,0 +1,14 @@
+// Reads a corridor file: its network with the merge rule and the meters, then its calls.
+pub mod calls;
+pub mod corridor;
+pub mod fault;
+pub mod head;
+pub mod load;
+pub mod take;
+
+pub use calls::CallRow;
+pub use calls::next_row;
+pub use corridor::Corridor;
+pub use corridor::RowStart;
+pub use fault::FileFault;
+pub use load::read_network;

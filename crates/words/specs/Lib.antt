@@ -1,0 +1,5 @@
+pub mod Lines
+pub mod Tables
+pub mod Faults
+pub mod Tokens
+pub mod Texts
