@@ -71,8 +71,8 @@ pub held-split : (gates : ℕ → Option Gate) (m : Meaning) (node : ℕ) (q : Q
     → Proper (metered gates m .limits node (q .clock)) q g → Held (gates node) (q .clock) (g .1)
 held-split gates m node q g h = held-limit (gates node) (q .clock) (m .limits node (q .clock) .1) (g .1) (omega (arith, h .second))
 
--- a rule behind the gates of a new list with one gate
-pub gated : (f old none : ℕ → Option Gate) (m fresh : Meaning) (node : ℕ) (gate : Gate) (q : Question)
-    → f ≡ withGate old node gate → old ≡ none → m ≡ fresh
-    → metered f m .splits node [] q ≡ metered (withGate none node gate) fresh .splits node [] q
-gated f old none m fresh node gate q e h k = cc
+-- a rule behind one gate
+pub gated : (f old none : ℕ → Option Gate) (m : Meaning) (node : ℕ) (gate : Gate) (q : Question)
+    → f ≡ withGate old node gate → old ≡ none
+    → metered f m .splits node [] q ≡ metered (withGate none node gate) m .splits node [] q
+gated f old none m node gate q e h = ap (λ k. metered k m .splits node [] q) (e ∙ ap (λ k. withGate k node gate) h)

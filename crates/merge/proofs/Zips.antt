@@ -99,7 +99,7 @@ counts (suc r) (suc n) Second (suc s1) zero e =
 counts (suc r) n Second zero zero e = none-counted Second n zero zero (omega arith)
 
 -- an order alternates, and is as long as vehicles or places allow
-pub alternates : (r : ℕ) (turn : Leg) (s1 s2 : ℕ) → Alternates turn s1 s2 (order r turn s1 s2)
+alternates : (r : ℕ) (turn : Leg) (s1 s2 : ℕ) → Alternates turn s1 s2 (order r turn s1 s2)
 alternates zero turn s1 s2 = Alternates.end
 alternates (suc r) First (suc s1) s2 = Alternates.first-goes (alternates r Second s1 s2)
 alternates (suc r) First zero (suc s2) = Alternates.first-lacks (alternates r First zero s2)
@@ -108,7 +108,23 @@ alternates (suc r) Second s1 (suc s2) = Alternates.second-goes (alternates r Fir
 alternates (suc r) Second (suc s1) zero = Alternates.second-lacks (alternates r Second s1 zero)
 alternates (suc r) Second zero zero = Alternates.end
 
-pub order-full : (r : ℕ) (turn : Leg) (s1 s2 : ℕ) → length (order r turn s1 s2) ≡ min (s1 + s2) r
+-- there is one such order of each length
+one-order : {turn : Leg} {s1 s2 : ℕ} {a b : List Leg} → Alternates turn s1 s2 a → Alternates turn s1 s2 b → length a ≡ length b → a ≡ b
+one-order Alternates.end Alternates.end e = refl
+one-order Alternates.end (Alternates.first-goes y) e = absurd (omega arith)
+one-order Alternates.end (Alternates.first-lacks y) e = absurd (omega arith)
+one-order Alternates.end (Alternates.second-goes y) e = absurd (omega arith)
+one-order Alternates.end (Alternates.second-lacks y) e = absurd (omega arith)
+one-order (Alternates.first-goes x) Alternates.end e = absurd (omega arith)
+one-order (Alternates.first-lacks x) Alternates.end e = absurd (omega arith)
+one-order (Alternates.second-goes x) Alternates.end e = absurd (omega arith)
+one-order (Alternates.second-lacks x) Alternates.end e = absurd (omega arith)
+one-order (Alternates.first-goes x) (Alternates.first-goes y) e = ap (λ legs. First ∷ legs) (one-order x y (omega arith))
+one-order (Alternates.first-lacks x) (Alternates.first-lacks y) e = ap (λ legs. Second ∷ legs) (one-order x y (omega arith))
+one-order (Alternates.second-goes x) (Alternates.second-goes y) e = ap (λ legs. Second ∷ legs) (one-order x y (omega arith))
+one-order (Alternates.second-lacks x) (Alternates.second-lacks y) e = ap (λ legs. First ∷ legs) (one-order x y (omega arith))
+
+order-full : (r : ℕ) (turn : Leg) (s1 s2 : ℕ) → length (order r turn s1 s2) ≡ min (s1 + s2) r
 order-full zero turn s1 s2 = omega arith
 order-full (suc r) First (suc s1) s2 = omega (arith, order-full r Second s1 s2)
 order-full (suc r) First zero (suc s2) = omega (arith, order-full r First zero s2)
@@ -146,6 +162,7 @@ zips First q =
       legs = order (q .r) First (q .s1) (q .s2);
       alternates = alternates (q .r) First (q .s1) (q .s2);
       full = order-full (q .r) First (q .s1) (q .s2);
+      only = λ others a e. one-order a (alternates (q .r) First (q .s1) (q .s2)) e;
       first = refl;
       second = refl;
       next = refl;
@@ -159,6 +176,7 @@ zips Second q =
       legs = order (q .r) Second (q .s1) (q .s2);
       alternates = alternates (q .r) Second (q .s1) (q .s2);
       full = order-full (q .r) Second (q .s1) (q .s2);
+      only = λ others a e. one-order a (alternates (q .r) Second (q .s1) (q .s2)) e;
       first = refl;
       second = refl;
       next = refl;

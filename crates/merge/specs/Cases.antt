@@ -8,6 +8,7 @@ use Rattle.merge.specs.declared.gate.Gate.{Gate}
 use Rattle.merge.specs.declared.choice.Choice.the-variants.{Fair, Ramp, Zip}
 use Rattle.merge.specs.Rules.{Meaning}
 use Rattle.merge.specs.States.{inside}
+use Rattle.merge.specs.Sharing.{fairMeaning}
 use Rattle.merge.specs.Choosing.{freshMeaning}
 use Rattle.merge.specs.Metering.{metered, noGates, withGate}
 
@@ -21,7 +22,7 @@ first m node q = m .splits node [] q
 
 -- `fair` under a meter with one gate.
 abbrev pub fairBehind : ℕ → Gate → Meaning
-fairBehind node gate = metered (withGate noGates node gate) (freshMeaning Fair)
+fairBehind node gate = metered (withGate noGates node gate) fairMeaning
 
 pub record WorkedCases : Type 0 where
   pub fair-full : (n t : ℕ) → first (freshMeaning Fair) n (asked t 4 2 3 4 2) ≡ (2, 1)

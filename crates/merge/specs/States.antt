@@ -14,7 +14,7 @@ nodes = 32
 abbrev pub inside : ℕ → Bool
 inside n = ltb 0 n && leb n nodes
 
--- What a list with a place for each node has at a node, and outside the nodes nothing but `d`.
+-- What a list with a place for each node has at a node, and `d` where there is no such node.
 abbrev pub atNode : {X : Type 0} → X → List X → ℕ → X
 atNode d xs n = cond (inside n) (getD xs n d) d
 

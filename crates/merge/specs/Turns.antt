@@ -93,12 +93,13 @@ pub data Alternates : Leg → ℕ → ℕ → List Leg → Type 0 where
   second-goes : {s1 s2 : ℕ} {legs : List Leg} → Alternates First s1 s2 legs → Alternates Second s1 (suc s2) (Second ∷ legs)
   second-lacks : {s1 : ℕ} {legs : List Leg} → Alternates Second s1 zero legs → Alternates Second (suc s1) zero (First ∷ legs)
 
--- The law of `zip`: vehicles pass in an order in which the legs alternate, as many as there are or as
--- there are places; while both legs have some left, neither is ahead by more than one.
+-- The law of `zip`: vehicles pass in the one order in which the legs alternate, as many as there are or
+-- as there are places; while both legs have some left, neither is ahead by more than one.
 pub record Zips (turn : Leg) (q : Question) (z : Zipped) : Type 0 where
   pub legs : List Leg
   pub alternates : Alternates turn (q .s1) (q .s2) legs
   pub full : length legs ≡ min (q .s1 + q .s2) (q .r)
+  pub only : (others : List Leg) → Alternates turn (q .s1) (q .s2) others → length others ≡ length legs → others ≡ legs
   pub first : z .g1 ≡ firsts legs
   pub second : z .g2 ≡ seconds legs
   pub next : z .turn ≡ turnBehind turn legs

@@ -1,6 +1,5 @@
 //! The rule `zip`: the legs pass one vehicle each in turn.
 ghost use mathlib.Core.Path.{_≡_};
-ghost use mathlib.Core.Bool.{cond};
 ghost use Prim.Native.Nat.{_+_, _≤_, min};
 ghost use lib.ListN.{replicate};
 ghost use Rattle.merge.specs.declared.alternate.Leg.the-variants.{First};
@@ -77,7 +76,8 @@ pub fn zip_all(turn: Leg, q: Question) -> Zipped
     zip_counts(turn, q)
 }
 
-/// The rule, with whose turn it is at each node. A node outside is answered as a new one.
+/// The rule, with whose turn it is at each node. Elsewhere it answers as a new rule does, and keeps
+/// nothing.
 #[derive(Drop)]
 pub struct Zip {
     turns: [Leg; SLOTS],
@@ -91,6 +91,7 @@ fn first_turns() -> [Leg; SLOTS]
 }
 
 impl Zip {
+    /// A new rule: it is the first leg's turn everywhere.
     pub fn new() -> Zip
         ensures { λ z. ⌜ zipMeaning (turnsOf (z .turns)) ≡ newZip ⌝ }
     {

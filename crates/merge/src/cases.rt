@@ -1,13 +1,13 @@
 //! Worked cases: what new rules answer.
 ghost use mathlib.Core.Path.{_≡_};
-ghost use mathlib.Core.List.{[], _∷_};
-ghost use mathlib.Core.Bool.{true};
-ghost use Rattle.merge.specs.States.{inside as insideNode};
+ghost use mathlib.Core.List.{[]};
 ghost use Rattle.merge.specs.Choosing.{freshMeaning};
 ghost use Rattle.merge.specs.Cases.{WorkedCases, workedAnswers, fairBehind, asked as askedOf};
 use crate::choice::Choice;
 use crate::choice::Chosen;
 use crate::choice::ChosenRule;
+use crate::fair::Fair;
+use crate::fair::FairRule;
 use crate::gate::Gate;
 use crate::gates::Gates;
 use crate::meter::Meter;
@@ -43,11 +43,11 @@ fn gated_answers(gate: Gate, node: u16, q: Question) -> (u16, u16)
 {
     let mut gates = Gates::none();
     let _ = gates.put(node, gate);
-    let mut rule = Meter::over(Chosen::new(Choice::Fair), gates);
+    let mut rule = Meter::over(Fair, gates);
     rule.split(node, q)
 }
 
-/// The worked cases hold of the rules, and new rules answer them so.
+/// The worked cases hold of what the rules mean, and new rules give these answers.
 pub fn worked_cases() -> [(u16, u16); 9]
     ensures hold { λ _. ⌜ WorkedCases ⌝ }
     ensures answers { λ w. ⌜ w ≡ workedAnswers ⌝ }

@@ -6,6 +6,7 @@ use crate::question::Question;
 use crate::rule::MergeRule;
 use crate::rule::NO_LIMIT;
 
+/// The rule. It keeps nothing.
 #[derive(Clone, Copy)]
 pub struct Fair;
 

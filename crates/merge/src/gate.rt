@@ -16,7 +16,7 @@ pub struct Gate {
 }
 
 impl Gate {
-    /// A gate of a rate from 1 to 200 and a period from 1 to 63.
+    /// A gate of a rate from 1 to 200 and a period from 1 to 63; none of others.
     pub fn new(rate: u16, period: u16) -> Option<Gate>
         ensures { λ r. ⌜ BySome r (allowed rate period ≡ false) (λ g. (allowed rate period ≡ true) × (g .rate ≡ rate) × (g .period ≡ period)) ⌝ }
     {

@@ -1,6 +1,9 @@
 //! The gates of a ramp meter, at most one at each node.
 ghost use mathlib.Core.Path.{_≡_};
-ghost use Rattle.merge.specs.States.{inside as insideNode};
+ghost use lib.ListN.{replicate};
+ghost use Prim.Native.Nat.{_+_};
+ghost use Rattle.std.specs.declared.option.Option.the-variants.{None};
+ghost use Rattle.merge.specs.States.{nodes, inside as insideNode};
 ghost use Rattle.merge.specs.Metering.{gatesOf, noGates, withGate};
 use crate::gate::Gate;
 use crate::nodes::SLOTS;
@@ -12,12 +15,19 @@ pub struct Gates {
     at: [Option<Gate>; SLOTS],
 }
 
+/// The places of the nodes where none has a gate.
+fn no_gates() -> [Option<Gate>; SLOTS]
+    ensures { λ r. ⌜ r ≡ replicate (nodes + 1) None ⌝ }
+{
+    [None; SLOTS]
+}
+
 impl Gates {
     /// No node has a gate.
     pub fn none() -> Gates
         ensures { λ r. ⌜ gatesOf r ≡ noGates ⌝ }
     {
-        Gates { at: [None; SLOTS] }
+        Gates { at: no_gates() }
     }
 
     /// Gives a node this gate; false, and nothing changes, if there is no such node.

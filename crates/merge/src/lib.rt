@@ -28,3 +28,4 @@ pub use question::Question;
 pub use ramp::Ramp;
 pub use ramp::RampRule;
 pub use rule::MergeRule;
+pub use rule::ask_one;

@@ -35,7 +35,9 @@ fn cut_to(l: u16, q: Question) -> Question
     }
 }
 
-/// A rule under a ramp meter.
+/// A rule under a ramp meter: at a node with a gate the second leg's limit is the gate's, or the rule's
+/// own if that is less; every other limit is the rule's own. The rule is asked with no more of the
+/// second leg than may pass.
 #[derive(Drop)]
 pub struct Meter<R> {
     below: R,
@@ -43,6 +45,7 @@ pub struct Meter<R> {
 }
 
 impl<R: MergeRule> Meter<R> {
+    /// A rule under a meter with these gates.
     pub fn over(below: R, gates: Gates) -> Meter<R>
         ensures rule { λ m. ⌜ m .below ≡ below ⌝ }
         ensures held { λ m. ⌜ m .gates ≡ gates ⌝ }

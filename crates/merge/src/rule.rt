@@ -26,11 +26,17 @@ pub trait MergeRule {
         ensures leaves { λ _. ⌜ meaning (now (self .exit)) ≡ after (meaning (now (self .entry))) node q ⌝ };
 }
 
-/// Asks any rule once; its split is proper, by the law.
+/// By the law, the split that a rule has to answer is proper.
+fn answers_properly<R: MergeRule>(rule: &R, node: u16, q: Question)
+    ensures { λ _. ⌜ Proper (R·MergeRule .meaning (now (rule .entry)) .limits node (q .clock)) q (R·MergeRule .meaning (now (rule .entry)) .splits node [] q) ⌝ }
+{}
+
+/// Asks any rule once; the split is proper.
 pub fn ask_one<R: MergeRule>(rule: &mut R, node: u16, q: Question) -> (u16, u16)
     ensures answers { λ g. ⌜ g ≡ R·MergeRule .meaning (now (rule .entry)) .splits node [] q ⌝ }
     ensures proper { λ g. ⌜ Proper (R·MergeRule .meaning (now (rule .entry)) .limits node (q .clock)) q g ⌝ }
     ensures leaves { λ _. ⌜ R·MergeRule .meaning (now (rule .exit)) ≡ after (R·MergeRule .meaning (now (rule .entry))) node q ⌝ }
 {
+    answers_properly(rule, node, q);
     rule.split(node, q)
 }
