@@ -17,3 +17,4 @@ pub mod Asking
 pub mod Safety
 pub mod Telling
 pub mod Leasts
+pub mod Numbering

@@ -2,4 +2,5 @@ pub mod Plain
 pub mod History
 pub mod Promise
 pub mod Least
+pub mod Numbers
 pub mod Now

@@ -1,6 +1,7 @@
 // The theorems, each the contract of a function that does nothing, so that no check passes without its proof.
 ghost use Rattle.newell.specs.Promise.{One-plain-run, At-each-moment, Vehicles-conserved, Bounds-kept, Order-kept, Travel-times, Runs-clear};
 ghost use Rattle.newell.specs.Least.{Nodes-balanced, Least-of-three};
+ghost use Rattle.newell.specs.Numbers.{Longest-walk-there, Longest-steps-there, Period-opens};
 ghost use Rattle.newell.specs.Now.{Step-carries, Booking-carries, Opening-starts, Idle-carries, Link-tells, Entrance-tells, Exit-tells, Ran-carries, Each-moment, Reached-safe};
 
 // Two plain runs for the same calls agree, in every answer and at every clock.
@@ -78,6 +79,15 @@ pub fn calls_carry() -> u8
     ensures one_by_one { λ _. ⌜ Ran-carries ⌝ }
     ensures moments { λ _. ⌜ Each-moment ⌝ }
     ensures safe { λ _. ⌜ Reached-safe ⌝ }
+{
+    0
+}
+
+// The numbers that clearing asks for are there.
+pub fn clearing_numbers() -> u8
+    ensures walk { λ _. ⌜ Longest-walk-there ⌝ }
+    ensures steps { λ _. ⌜ Longest-steps-there ⌝ }
+    ensures period { λ _. ⌜ Period-opens ⌝ }
 {
     0
 }
