@@ -11,7 +11,7 @@ pub mod Single
 pub mod Extend
 pub mod Calls
 pub mod Carried
-pub mod Corridor
+pub mod Worked
 pub mod Diverge
 pub mod Asking
 pub mod Safety

@@ -3,4 +3,5 @@ pub mod History
 pub mod Promise
 pub mod Least
 pub mod Numbers
+pub mod Corridor
 pub mod Now

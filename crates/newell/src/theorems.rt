@@ -2,6 +2,7 @@
 ghost use Rattle.newell.specs.Promise.{One-plain-run, At-each-moment, Vehicles-conserved, Bounds-kept, Order-kept, Travel-times, Runs-clear};
 ghost use Rattle.newell.specs.Least.{Nodes-balanced, Least-of-three};
 ghost use Rattle.newell.specs.Numbers.{Longest-walk-there, Longest-steps-there, Period-opens};
+ghost use Rattle.newell.specs.Corridor.{Corridor-worked, Diverge-worked};
 ghost use Rattle.newell.specs.Now.{Step-carries, Booking-carries, Opening-starts, Idle-carries, Link-tells, Entrance-tells, Exit-tells, Ran-carries, Each-moment, Reached-safe};
 
 // Two plain runs for the same calls agree, in every answer and at every clock.
@@ -88,6 +89,14 @@ pub fn clearing_numbers() -> u8
     ensures walk { λ _. ⌜ Longest-walk-there ⌝ }
     ensures steps { λ _. ⌜ Longest-steps-there ⌝ }
     ensures period { λ _. ⌜ Period-opens ⌝ }
+{
+    0
+}
+
+// The definitions on cases worked by hand.
+pub fn worked_cases() -> u8
+    ensures corridor { λ _. ⌜ Corridor-worked ⌝ }
+    ensures diverge { λ _. ⌜ Diverge-worked ⌝ }
 {
     0
 }
