@@ -2,23 +2,20 @@
 use Rattle.newell.specs.declared.records.Vehicle.{Vehicle}
 use mathlib.Core.Path.{_≡_, refl, sym, ap, _∙_, subst}
 use mathlib.Core.List.{List, [], _∷_, _++_, map}
-use mathlib.Core.Bool.{Bool, true, false, cond}
-use Rattle.std.specs.declared.option.Option.{Option}
-use Rattle.std.specs.declared.option.Option.the-variants.{Some, None}
 use mathlib.Core.Logic.{_⊎_, inl, inr}
-use Prim.Native.Nat.{ℕ, suc, zero, _+_, _-_, _≤_, _<_, min}
+use Prim.Native.Nat.{ℕ, suc, zero, _+_, _-_, _≤_, _<_}
 use native.Mathlib.Omega.{arith}
 use native.Mathlib.Nat.{add-zero, add-suc, le-trans}
 use native.Mathlib.Numerals.{add-one}
-use lib.ListN.{length, getD, take, drop, length-append, length-take, length-drop, length-map}
-use Rattle.std.specs.shelf.Lists.{kept-by, joined, All}
+use lib.ListN.{length, getD, take, length-append, length-take, length-drop, length-map}
+use Rattle.std.specs.shelf.Lists.{All}
 use Rattle.std.proofs.shelf.Elements.{all-map, all-getD}
 use Rattle.std.proofs.shelf.Lists.{getD-append-left, getD-append-right}
 use Rattle.std.proofs.shelf.Tests.{cases-lt}
 use Rattle.std.proofs.shelf.Sums.{countBy-le-length, length-kept-by}
-use Rattle.network.specs.Net.{Net, Kind, entrance, exit, mainline, merge, diverge, Sound, entering, leaving, Served, Entrance}
+use Rattle.network.specs.Net.{Net, exit, mainline, merge, diverge, Sound, entering, leaving, Served}
 use Rattle.merge.specs.Rules.{Meaning, Askable, Proper, Lawful}
-use Rattle.newell.specs.Plain.{Curves, U, V, S, R, on, leavers, towards, waiting, arrivals, question, Law}
+use Rattle.newell.specs.Plain.{Curves, U, V, S, R, on, leavers, towards, arrivals, question, Law}
 use Rattle.newell.proofs.Timeline.{Timeline}
 use Rattle.network.proofs.Places.{In, entered, leftFrom, End, exits, passes, first-leg, second-leg, branches, Start, begins, follows, joins, first-branch, second-branch, end, start}
 

@@ -2,26 +2,25 @@
 use Rattle.newell.specs.declared.records.Vehicle.{Vehicle}
 use Rattle.merge.specs.declared.question.Question.{Question}
 use Rattle.newell.specs.declared.records.StepRow.{StepRow}
-use mathlib.Core.Path.{_≡_, refl, sym, ap, ap₂, _∙_, subst, subst₂, fun-ext}
+use mathlib.Core.Path.{_≡_, refl, sym, ap, ap₂, _∙_, subst, subst₂}
 use mathlib.Core.List.{List, [], _∷_, _++_, map}
-use mathlib.Core.Bool.{Bool, true, false, cond}
 use Rattle.std.specs.declared.option.Option.{Option}
 use Rattle.std.specs.declared.option.Option.the-variants.{Some, None}
 use mathlib.Core.Logic.{_⊎_, inl, inr, ∥∥₁-elim, ∥∥₁-prop}
 use native.Mathlib.Bridge.{le-prop}
-use Prim.Native.Nat.{ℕ, suc, zero, _+_, _-_, _*_, _≤_, _<_, min}
+use Prim.Native.Nat.{ℕ, suc, zero, _+_, _-_, _≤_, _<_}
 use native.Mathlib.Omega.{arith}
 use native.Mathlib.Numerals.{add-one}
-use lib.ListN.{length, getD, take, drop, replicate, length-append, length-map}
+use lib.ListN.{length, take, drop, replicate, length-append, length-map}
 use borrow.Author.Tests.{eq-eqb, ne-eqb, le-leb}
 use Rattle.std.proofs.shelf.Tests.{cases-eq}
-use Rattle.std.specs.shelf.Lists.{joined, All}
+use Rattle.std.specs.shelf.Lists.{All}
 use Rattle.std.proofs.shelf.Lists.{drop-drop, drop-append-le, append-nil}
-use Rattle.network.specs.Net.{Net, Sound, Entrance, Exit, Served, entering, leaving}
+use Rattle.network.specs.Net.{Net, Sound, Entrance, Served, entering, leaving}
 use Rattle.merge.specs.Rules.{Meaning, Lawful}
-use Rattle.newell.specs.Plain.{Curves, U, V, S, R, on, leavers, towards, waiting, arrivals, question, Law, Passable, Greatest}
-use Rattle.newell.specs.History.{History, Event, book, step, ask-link, ask-entrance, ask-exit, told, refused, clock, booked, handed, final, travelled, travel, lastTravel, rowOf, stateOf, Filled, Asked, Answers, Follows}
-use Rattle.newell.specs.Now.{LinkNow, RunNow, Shows, sends, takes, leave, arrive, asks, Fit, Passes, Moved, RowsNow, AskedNow, lasted, Queued, Opened, Moment, Carries, Reached, Step-carries, Booking-carries, Opening-starts, Idle, Idle-carries, stateNow, Link-tells}
+use Rattle.newell.specs.Plain.{Curves, U, V, S, R, on, leavers, towards, waiting, arrivals, question, Law, Passable}
+use Rattle.newell.specs.History.{History, Event, book, step, ask-link, ask-entrance, ask-exit, told, refused, clock, booked, handed, final, travelled, travel, lastTravel, rowOf, stateOf, Filled, Asked, Follows}
+use Rattle.newell.specs.Now.{LinkNow, RunNow, Shows, sends, takes, leave, arrive, asks, Fit, Passes, Moved, RowsNow, AskedNow, lasted, Carries, Reached, Step-carries, Booking-carries, Opening-starts, Idle, Idle-carries, stateNow, Link-tells}
 use Rattle.newell.specs.Promise.{Agree}
 use Rattle.network.proofs.Places.{In, entered, leftFrom, leaves, only}
 use Rattle.newell.proofs.Bounds.{U-mono, V-le-U}

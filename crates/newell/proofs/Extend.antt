@@ -1,24 +1,20 @@
 -- The plain run reads its curves at the clocks so far only; so it can be taken on by a step.
-use Rattle.newell.specs.declared.records.LinkState.{LinkState}
 use Rattle.newell.specs.declared.records.Vehicle.{Vehicle}
 use Rattle.merge.specs.declared.question.Question.{Question}
 use Rattle.newell.specs.declared.records.StepRow.{StepRow}
-use mathlib.Core.Path.{_≡_, refl, sym, ap, ap₂, _∙_, subst, subst₂, fun-ext}
+use mathlib.Core.Path.{_≡_, refl, sym, ap, ap₂, _∙_, subst}
 use mathlib.Core.List.{List, [], _∷_, _++_, map}
-use mathlib.Core.Bool.{Bool, true, false, cond}
-use Rattle.std.specs.declared.option.Option.{Option}
-use Rattle.std.specs.declared.option.Option.the-variants.{Some, None}
+use mathlib.Core.Bool.{cond}
 use mathlib.Core.Logic.{_⊎_, inl, inr}
-use Prim.Native.Nat.{ℕ, suc, zero, _+_, _-_, _*_, _≤_, _<_, min}
+use Prim.Native.Nat.{ℕ, suc, zero, _+_, _-_, _≤_, _<_}
 use native.Mathlib.Omega.{arith}
-use native.Mathlib.Numerals.{add-one}
-use lib.Dec.{eqb, leb}
-use lib.ListN.{length, getD, take, drop}
+use lib.Dec.{leb}
+use lib.ListN.{length, drop}
 use borrow.Author.Tests.{le-leb, lt-leb}
-use Rattle.network.specs.Net.{Net, Sound, Entrance, Exit, entering, leaving}
-use Rattle.merge.specs.Rules.{Meaning, Lawful}
-use Rattle.newell.specs.Plain.{Curves, U, V, S, R, on, leavers, towards, waiting, arrivals, question, Law, Passable, Greatest}
-use Rattle.newell.specs.History.{History, Event, book, step, ask-link, ask-entrance, ask-exit, Reply, told, refused, clock, booked, Checked, final, travelled, travel, lastTravel, rowOf, stateOf, Filled, Asked, Answers, New, Follows}
+use Rattle.network.specs.Net.{Net, Sound, Entrance, entering, leaving}
+use Rattle.merge.specs.Rules.{Meaning}
+use Rattle.newell.specs.Plain.{Curves, V, on, waiting, Law}
+use Rattle.newell.specs.History.{History, Event, book, step, ask-link, ask-entrance, ask-exit, told, refused, clock, booked, final, travelled, travel, lastTravel, rowOf, stateOf, Filled, Asked, Answers, Follows}
 use Rattle.newell.specs.Promise.{Agree}
 use Rattle.network.proofs.Places.{In, entered, leftFrom}
 use Rattle.newell.proofs.Single.{passable, V-same, U-same, S-same, R-same, on-same, question-same, leavers-same, arrivals-same}

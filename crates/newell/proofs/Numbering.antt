@@ -1,5 +1,5 @@
 -- The numbers that clearing asks for are there.
-use mathlib.Core.Path.{_≡_, refl, sym, ap, _∙_, subst}
+use mathlib.Core.Path.{_≡_, refl, sym, _∙_, subst}
 use mathlib.Core.List.{List, [], _∷_}
 use mathlib.Core.Logic.{_⊎_, inl, inr}
 use Rattle.std.specs.declared.option.Option.{Option}
@@ -8,12 +8,10 @@ use Prim.Native.Nat.{ℕ, suc, zero, _+_, _-_, _*_, _/_, _%_, _≤_, _<_}
 use native.Mathlib.Omega.{arith}
 use native.Mathlib.Nat.{mod-add-div', mod-lt, mul-mod-left}
 use Rattle.std.proofs.shelf.Tests.{cases-lt, cases-eq}
-use Rattle.network.specs.Net.{Net, Sound, Walk, there, along, Served, Entrance, MostLinks, LongestSteps, entering, leaving, next}
-use Rattle.network.proofs.Places.{In, leftFrom}
+use Rattle.network.specs.Net.{Net, Sound, Walk, there, along, Served, MostLinks, entering, leaving, next}
+use Rattle.network.proofs.Places.{leftFrom}
 use Rattle.network.proofs.Sorts.{off₁}
-use Rattle.merge.specs.Rules.{Meaning}
-use Rattle.newell.specs.Promise.{Opens}
-use Rattle.newell.specs.Numbers.{ByPeriod, Longest-walk-there, Longest-steps-there, Period-opens}
+use Rattle.newell.specs.Numbers.{Longest-walk-there, Longest-steps-there, Period-opens}
 use Rattle.newell.proofs.Weights.{next-leaves}
 use Rattle.newell.proofs.Moments.{served-bound}
 

@@ -2,15 +2,14 @@
 use Rattle.newell.specs.declared.records.Vehicle.{Vehicle}
 use mathlib.Core.Path.{_≡_, refl, sym, ap, ap₂, _∙_, subst}
 use mathlib.Core.List.{List, [], _∷_, _++_, map}
-use mathlib.Core.Bool.{Bool, true, false, cond}
+use mathlib.Core.Bool.{true, cond}
 use mathlib.Core.Logic.{_⊎_, inl, inr}
 use Prim.Native.Nat.{ℕ, suc, zero, _+_, _-_, _≤_, _<_}
 use native.Mathlib.Omega.{arith}
-use lib.ListN.{length, getD, take, drop, length-append, length-take, length-drop}
+use lib.ListN.{length, getD, take, drop, length-take, length-drop}
 use lib.Seq.{take-add}
 use borrow.Author.Tests.{eq-eqb}
 use Rattle.std.specs.shelf.Lists.{All, joined}
-use Rattle.std.proofs.shelf.Elements.{all-map}
 use Rattle.std.proofs.shelf.Lists.{append-nil, take-all, take-append-le, drop-at, getD-take, getD-drop, getD-append-left}
 use Rattle.std.proofs.shelf.Tests.{cases-lt}
 use Rattle.network.specs.Net.{Net, Sound, Entrance, entering, leaving, onward, next, is}

@@ -1,14 +1,12 @@
 -- The worked cases.
 use Rattle.newell.specs.declared.records.Vehicle.{Vehicle}
 use Rattle.newell.specs.declared.records.StepRow.{StepRow}
-use Rattle.merge.specs.declared.question.Question.{Question}
 use mathlib.Core.Path.{_≡_, refl, sym, ap, ap₂, _∙_, subst, subst₂}
 use mathlib.Core.List.{List, [], _∷_, _++_, map}
 use mathlib.Core.Bool.{Bool, true, false, cond}
-use Rattle.std.specs.declared.option.Option.{Option}
-use Rattle.std.specs.declared.option.Option.the-variants.{Some, None}
+use Rattle.std.specs.declared.option.Option.the-variants.{Some}
 use mathlib.Core.Logic.{_⊎_, inl, inr}
-use Prim.Native.Nat.{ℕ, suc, zero, _+_, _-_, _*_, _/_, _≤_, _<_, min}
+use Prim.Native.Nat.{ℕ, suc, zero, _+_, _*_, _/_, _≤_, _<_}
 use native.Mathlib.Omega.{arith}
 use lib.Dec.{lit≤, lit<}
 use lib.ListN.{length, take, drop, getD, replicate, length-drop}
@@ -18,13 +16,13 @@ use Rattle.std.proofs.shelf.Sums.{length-kept-by}
 use Rattle.std.proofs.shelf.Lists.{take-map}
 use Rattle.std.proofs.shelf.Tests.{cases-lt}
 use Rattle.newell.proofs.Totals.{sum-map}
-use Rattle.network.specs.Net.{Net, Sound, SoundLink, Kind, entrance, exit, merge, entering, leaving, there, along, Served, next, is}
+use Rattle.network.specs.Net.{Net, Sound, SoundLink, Kind, entrance, exit, merge, entering, leaving, there, along, next, is}
 use Rattle.network.proofs.Places.{In, entered, leftFrom}
 use Rattle.merge.specs.Rules.{Meaning}
-use Rattle.newell.specs.Plain.{Curves, U, V, S, R, on, exits, towards, waiting, arrivals, question, Passable, Greatest, Law}
-use Rattle.newell.specs.History.{History, Event, book, step, ask-link, ask-entrance, ask-exit, told, clock, booked, goneBy, blank, rowOf, Filled, Asked, Answers, Follows}
+use Rattle.newell.specs.Plain.{Curves, V, S, R, on, exits, towards, waiting, arrivals, question, Passable, Law}
+use Rattle.newell.specs.History.{History, book, ask-link, ask-entrance, ask-exit, told, clock, booked, goneBy, blank, rowOf, Filled, Asked, Answers, Follows}
 use Rattle.newell.specs.Promise.{Empty, Agree}
-use Rattle.newell.specs.Corridor.{road, corridor, tells, shared, Fair, rowsAt, stepFrom, worked, WorkedThrough, Corridor-worked, Diverge-worked}
+use Rattle.newell.specs.Corridor.{road, corridor, tells, shared, Fair, rowsAt, stepFrom, worked, Corridor-worked, Diverge-worked}
 use Rattle.newell.proofs.Calls.{one-plain-run}
 
 sound : Sound corridor

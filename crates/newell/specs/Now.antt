@@ -7,7 +7,7 @@ use mathlib.Core.Path.{_≡_}
 use mathlib.Core.List.{List, [], _∷_, _++_, map}
 use Rattle.std.specs.declared.option.Option.{Option}
 use Rattle.std.specs.declared.option.Option.the-variants.{Some, None}
-use Prim.Native.Nat.{ℕ, suc, zero, _+_, _-_, _*_, _≤_, _<_, min}
+use Prim.Native.Nat.{ℕ, _+_, _-_, _*_, _≤_, _<_, min}
 use lib.ListN.{length, take, drop, getD, replicate}
 use Rattle.std.specs.shelf.Lists.{joined, All}
 use Rattle.network.specs.Net.{Net, Sound, Entrance, Exit, Served, entering, leaving}
@@ -179,14 +179,16 @@ abbrev pub Ran : Net → RunNow → History → RunNow → Type 0
 Ran net r [] r′ = r ≡ r′
 Ran net r (event ∷ h) r″ = (r′ : RunNow) × Ran net r h r′ × Carries net r′ event r″
 
--- so the plain run goes on along with them all,
+-- so the plain run goes on along with them all
 abbrev pub Ran-carries : Type 0
 Ran-carries = (net : Net) (r r′ : RunNow) (later h : History) → Ran net r later r′ → Moment net h r → Moment net (later ++ h) r′
 
--- and from opening on the promise holds at each moment: ahead of the first call, between two, and behind the last
+-- The promise at each moment of the calls h, which led to r: ahead of the first call, between two, and behind the last.
+abbrev pub Throughout : Net → History → RunNow → Type 0
+Throughout net h r = (later h₀ : History) → later ++ h₀ ≡ h → (r₀ : RunNow) × Moment net h₀ r₀ × Ran net r₀ later r
+
 abbrev pub Each-moment : Type 0
-Each-moment = (net : Net) → Sound net → (r r″ : RunNow) → Opened net r → (later h : History) → Ran net r (later ++ h) r″
-    → (r′ : RunNow) × Moment net h r′ × Ran net r′ later r″
+Each-moment = (net : Net) → Sound net → (r r′ : RunNow) → Opened net r → (h : History) → Ran net r h r′ → Throughout net h r′
 
 -- what code may count on: no difference of a step falls below 0, no line is over its part, no number is large
 pub record SafeLink (net : Net) (r : RunNow) (i : ℕ) : Type 0 where

@@ -1,11 +1,9 @@
 -- The plain run: curves for all clocks, and the laws that they keep.
-use Rattle.network.specs.declared.link.Link.{Link}
 use Rattle.newell.specs.declared.records.Vehicle.{Vehicle}
 use Rattle.merge.specs.declared.question.Question.{Question}
 use mathlib.Core.Path.{_≡_}
 use mathlib.Core.List.{List, [], _∷_, _++_, map}
-use mathlib.Core.Bool.{Bool, cond}
-use Prim.Native.Nat.{ℕ, suc, zero, _+_, _-_, _≤_, _<_, min}
+use Prim.Native.Nat.{ℕ, _+_, _-_, _≤_, _<_, min}
 use lib.ListN.{length, take, drop}
 use Rattle.std.specs.shelf.Lists.{kept-by, joined}
 use Rattle.network.specs.Net.{Net, entering, leaving, next, is}

@@ -1,6 +1,5 @@
 -- What is promised of every run at each moment: vehicles are conserved, links keep their bounds, vehicles keep their order, travel times are
 -- those of the curves, and a run clears.
-use Rattle.newell.specs.declared.records.Vehicle.{Vehicle}
 use mathlib.Core.Path.{_≡_}
 use mathlib.Core.List.{List, [], _∷_, _++_, map}
 use mathlib.Core.Bool.{cond}
@@ -12,7 +11,7 @@ use Rattle.std.specs.shelf.Lists.{All, sumBy}
 use Rattle.network.specs.Net.{Net, Sound, Entrance, Exit, MostLinks, LongestSteps, entering, leaving}
 use Rattle.merge.specs.Rules.{Meaning}
 use Rattle.newell.specs.Plain.{Curves, U, V, on, waiting, leavers, newcomers, exits, towards}
-use Rattle.newell.specs.History.{History, Event, book, step, ask-link, ask-entrance, ask-exit, told, refused, call, clock, booked, bookedFor, goneBy, handed, travel, Follows}
+use Rattle.newell.specs.History.{History, book, step, ask-link, ask-entrance, ask-exit, told, refused, call, clock, booked, bookedFor, goneBy, handed, travel, Follows}
 
 -- a sum over the places below n
 abbrev pub total : ℕ → (ℕ → ℕ) → ℕ
