@@ -1,1 +1,9 @@
 pub mod Rules
+pub mod States
+pub mod Sharing
+pub mod Ramps
+pub mod Turns
+pub mod Choosing
+pub mod Bounds
+pub mod Metering
+pub mod Cases

@@ -1,6 +1,6 @@
-// What a merge asks of its rule.
+//! What is asked of a rule at a merge.
 
-// The clock, what each leg may send, what may be taken, and the legs' capacities.
+/// At a clock: how many vehicles each leg may send, how many places there are, and the legs' capacities.
 #[derive(Clone, Copy)]
 pub struct Question {
     pub clock: u32,

@@ -4,3 +4,7 @@ pub mod Sorts
 pub mod Nexts
 pub mod Walking
 pub mod Rights
+pub mod Growing
+pub mod Finishing
+pub mod Routing
+pub mod Fresh

@@ -30,8 +30,8 @@ kind-prop net n (Mainline i j) = has-prop net n _ _
 kind-prop net n (Merge i i′ j) = has-prop net n _ _
 kind-prop net n (Diverge i j j′) = has-prop net n _ _
 
-link-prop : (net : Net) (l : Link) → IsProp (SoundLink net l)
-link-prop net l a b = λ z. record {
+pub link-prop : (n : ℕ) (l : Link) → IsProp (SoundLink n l)
+link-prop n l a b = λ z. record {
   from-node = le-prop (a .from-node) (b .from-node) z;
   upward = le-prop (a .upward) (b .upward) z;
   to-node = le-prop (a .to-node) (b .to-node) z;
@@ -65,7 +65,7 @@ right-prop l a b = λ z. record {
   nodes = le-prop (a .nodes) (b .nodes) z;
   count-least = le-prop (a .count-least) (b .count-least) z;
   count = le-prop (a .count) (b .count) z;
-  link = λ i h. link-prop (drawn l) (linkOf l i) (a .link i h) (b .link i h) z;
+  link = λ i h. link-prop (l .nodes) (linkOf l i) (a .link i h) (b .link i h) z;
   rows = λ k x j e. leads-prop l k x j (a .rows k x j e) (b .rows k x j e) z;
   kinds = λ k h m. kind-prop (drawn l) k (kindAt l k) (a .kinds k h m) (b .kinds k h m) z;
 }
@@ -74,7 +74,7 @@ right-prop l a b = λ z. record {
 pub right-of : (n : Network) → Right (n .layout)
 right-of n = ∥∥₁-elim (n .right) (right-prop (n .layout)) (λ r. r)
 
-kind-of : (net : Net) (n : ℕ) (k : NodeKind) → IsKind net n k → Kind net n
+pub kind-of : (net : Net) (n : ℕ) (k : NodeKind) → IsKind net n k → Kind net n
 kind-of net n Nothing h = absurd h
 kind-of net n (Entrance j) h = entrance j (h .0) (h .1)
 kind-of net n (Exit i) h = exit i (h .0) (h .1)

@@ -4,7 +4,7 @@ use mathlib.Core.List.{List, [], _∷_}
 use mathlib.Core.Bool.{Bool, true, false, cond, _&&_}
 use Prim.Native.Nat.{ℕ, _+_, _*_, _≤_, _<_}
 use lib.Dec.{ltb}
-use lib.ListN.{getD, length}
+use lib.ListN.{getD, length, replicate}
 use Rattle.std.specs.declared.option.Option.{Option}
 use Rattle.std.specs.declared.option.Option.the-variants.{Some, None}
 use Rattle.network.specs.declared.link.Link.{Link}
@@ -15,6 +15,10 @@ use Rattle.network.specs.Net.{Net, SoundLink, entering, leaving}
 
 abbrev pub blankLink : Link
 blankLink = record { from = 0; to = 0; free = 0; wave = 0; capacity = 0; storage = 0 }
+
+-- so many nodes, and no link
+unfoldable pub emptyLayout : ℕ → Layout
+emptyLayout nodes = record { nodes = nodes; count = 0; links = replicate 48 blankLink; kinds = replicate 33 Nothing; routes = replicate 1089 None }
 
 abbrev pub linkOf : Layout → ℕ → Link
 linkOf l i = getD (l .links) i blankLink
@@ -82,6 +86,6 @@ pub record Right (l : Layout) : Type 0 where
   pub nodes : l .nodes ≤ 32
   pub count-least : 1 ≤ l .count
   pub count : l .count ≤ 48
-  pub link : (i : ℕ) → i < l .count → SoundLink (drawn l) (linkOf l i)
+  pub link : (i : ℕ) → i < l .count → SoundLink (l .nodes) (linkOf l i)
   pub rows : (k x j : ℕ) → routeAt l k x ≡ Some j → Leads l k x j
   pub kinds : (k : ℕ) → 1 ≤ k → k ≤ l .nodes → IsKind (drawn l) k (kindAt l k)

@@ -66,10 +66,10 @@ abbrev pub Served : Net → ℕ → ℕ → ℕ → Type 0
 Served net e x n = (j : ℕ) × Entrance net e j × Walk net x j n
 
 -- A network that keeps the rules.
-pub record SoundLink (net : Net) (l : Link) : Type 0 where
+pub record SoundLink (nodes : ℕ) (l : Link) : Type 0 where
   pub from-node : 1 ≤ l .from
   pub upward : l .from < l .to
-  pub to-node : l .to ≤ net .nodes
+  pub to-node : l .to ≤ nodes
   pub free-least : 1 ≤ l .free
   pub free-most : l .free ≤ 63
   pub wave-least : 1 ≤ l .wave
@@ -84,7 +84,7 @@ pub record Sound (net : Net) : Type 0 where
   pub nodes-most : net .nodes ≤ 32
   pub links-least : 1 ≤ net .links
   pub links-most : net .links ≤ 48
-  pub link : (i : ℕ) → i < net .links → SoundLink net (net .link i)
+  pub link : (i : ℕ) → i < net .links → SoundLink (net .nodes) (net .link i)
   pub kind : (n : ℕ) → 1 ≤ n → n ≤ net .nodes → Kind net n
   pub route : (n x k : ℕ) → net .route n x ≡ Some k → (i : ℕ) × (j : ℕ) × (j′ : ℕ)
       × (entering net n ≡ i ∷ []) × (leaving net n ≡ j ∷ j′ ∷ []) × ((k ≡ j) ⊎ (k ≡ j′)) × ((l : ℕ) × Exit net x l)

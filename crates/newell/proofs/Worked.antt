@@ -6,7 +6,7 @@ use mathlib.Core.List.{List, [], _∷_, _++_, map}
 use mathlib.Core.Bool.{Bool, true, false, cond}
 use Rattle.std.specs.declared.option.Option.the-variants.{Some}
 use mathlib.Core.Logic.{_⊎_, inl, inr}
-use Prim.Native.Nat.{ℕ, suc, zero, _+_, _*_, _/_, _≤_, _<_}
+use Prim.Native.Nat.{ℕ, suc, zero, _+_, _≤_, _<_}
 use native.Mathlib.Omega.{arith}
 use lib.Dec.{lit≤, lit<}
 use lib.ListN.{length, take, drop, getD, replicate, length-drop}
@@ -18,11 +18,12 @@ use Rattle.std.proofs.shelf.Tests.{cases-lt}
 use Rattle.newell.proofs.Totals.{sum-map}
 use Rattle.network.specs.Net.{Net, Sound, SoundLink, Kind, entrance, exit, merge, entering, leaving, there, along, next, is}
 use Rattle.network.proofs.Places.{In, entered, leftFrom}
-use Rattle.merge.specs.Rules.{Meaning}
+use Rattle.merge.specs.Sharing.{fairSplit, fairMeaning}
+use Rattle.merge.proofs.Laws.{fair-lawful}
 use Rattle.newell.specs.Plain.{Curves, V, S, R, on, exits, towards, waiting, arrivals, question, Passable, Law}
 use Rattle.newell.specs.History.{History, book, ask-link, ask-entrance, ask-exit, told, clock, booked, goneBy, blank, rowOf, Filled, Asked, Answers, Follows}
 use Rattle.newell.specs.Promise.{Empty, Agree}
-use Rattle.newell.specs.Corridor.{road, corridor, tells, shared, Fair, rowsAt, stepFrom, worked, Corridor-worked, Diverge-worked}
+use Rattle.newell.specs.Corridor.{road, corridor, tells, rowsAt, stepFrom, worked, Corridor-worked, Diverge-worked}
 use Rattle.newell.proofs.Calls.{one-plain-run}
 
 sound : Sound corridor
@@ -36,7 +37,7 @@ sound = record {
   route = λ n x k e. absurd (let z : _≡_ {A = ℕ} 0 1 = cc in omega arith);
 }
   where
-    links : (i : ℕ) → i < 3 → SoundLink corridor (road i)
+    links : (i : ℕ) → i < 3 → SoundLink 4 (road i)
     links zero h = record {
       from-node = lit≤ tt;
       upward = lit< tt;
@@ -149,170 +150,167 @@ Arrive : (ℕ → List ℕ) → ℕ → ℕ → Type 0
 Arrive b t j = curves .came j (t + 1) ≡ curves .came j t ++ map (λ x. record { exit = x; since = t + 1 }) (arrivals corridor curves (b (road j .from)) j t)
 
 split : ℕ → ℕ × ℕ
-split t = let q = question corridor curves 0 1 2 t in shared (q .r * q .q1 / (q .q1 + q .q2)) q
+split t = fairSplit (question corridor curves 0 1 2 t)
 
-module _ (m : Meaning) (fair : Fair m) where
-  law-from : (b : ℕ → List ℕ) (t : ℕ) → Arrive b t 0 → Arrive b t 1 → Arrive b t 2 → V corridor curves 2 (t + 1) ≡ V corridor curves 2 t + S corridor curves 2 t
-      → V corridor curves 0 (t + 1) ≡ V corridor curves 0 t + split t .0 → V corridor curves 1 (t + 1) ≡ V corridor curves 1 t + split t .1
-      → Law corridor curves b m t
-  unfolding Arrive split
-  law-from b t a₀ a₁ a₂ x g₀ g₁ = record {
-    arrive = arrive;
-    exit = λ n i e l. subst (λ i. V corridor curves i (t + 1) ≡ V corridor curves i t + S corridor curves i t) (sym (ends n i e l)) x;
-    mainline = λ n i j e l. absurd (passes n i j e l);
-    merge = λ n i i′ j e l. let q = merges n i i′ j e l in let s = fair .shares [] (question corridor curves 0 1 2 t) in
-        subst₂ (λ n i. (V corridor curves i (t + 1) ≡ V corridor curves i t + m .splits n [] (question corridor curves i i′ j t) .0)
-        × (V corridor curves i′ (t + 1) ≡ V corridor curves i′ t + m .splits n [] (question corridor curves i i′ j t) .1)) (sym (q .3)) (sym (q .0))
-        (subst₂ (λ i′ j. (V corridor curves 0 (t + 1) ≡ V corridor curves 0 t + m .splits 3 [] (question corridor curves 0 i′ j t) .0)
-        × (V corridor curves i′ (t + 1) ≡ V corridor curves i′ t + m .splits 3 [] (question corridor curves 0 i′ j t) .1)) (sym (q .1)) (sym (q .2))
-        (g₀ ∙ ap (λ g. V corridor curves 0 t + g .0) (sym s), g₁ ∙ ap (λ g. V corridor curves 1 t + g .1) (sym s)));
-    diverge = λ n i j j′ e l. absurd (branches n j j′ l);
-  }
-    where
-      arrive : (j : ℕ) → j < 3 → Arrive b t j
-      arrive zero k = a₀
-      arrive (suc zero) k = a₁
-      arrive (suc (suc zero)) k = a₂
-      arrive (suc (suc (suc j))) k = absurd (omega arith)
+law-from : (b : ℕ → List ℕ) (t : ℕ) → Arrive b t 0 → Arrive b t 1 → Arrive b t 2 → V corridor curves 2 (t + 1) ≡ V corridor curves 2 t + S corridor curves 2 t
+    → V corridor curves 0 (t + 1) ≡ V corridor curves 0 t + split t .0 → V corridor curves 1 (t + 1) ≡ V corridor curves 1 t + split t .1
+    → Law corridor curves b fairMeaning t
+unfolding Arrive split
+law-from b t a₀ a₁ a₂ x g₀ g₁ = record {
+  arrive = arrive;
+  exit = λ n i e l. subst (λ i. V corridor curves i (t + 1) ≡ V corridor curves i t + S corridor curves i t) (sym (ends n i e l)) x;
+  mainline = λ n i j e l. absurd (passes n i j e l);
+  merge = λ n i i′ j e l. let q = merges n i i′ j e l in
+      subst₂ (λ n i. (V corridor curves i (t + 1) ≡ V corridor curves i t + fairMeaning .splits n [] (question corridor curves i i′ j t) .0)
+      × (V corridor curves i′ (t + 1) ≡ V corridor curves i′ t + fairMeaning .splits n [] (question corridor curves i i′ j t) .1)) (sym (q .3)) (sym (q .0))
+      (subst₂ (λ i′ j. (V corridor curves 0 (t + 1) ≡ V corridor curves 0 t + fairMeaning .splits 3 [] (question corridor curves 0 i′ j t) .0)
+      × (V corridor curves i′ (t + 1) ≡ V corridor curves i′ t + fairMeaning .splits 3 [] (question corridor curves 0 i′ j t) .1)) (sym (q .1)) (sym (q .2))
+      (g₀, g₁));
+  diverge = λ n i j j′ e l. absurd (branches n j j′ l);
+}
+  where
+    arrive : (j : ℕ) → j < 3 → Arrive b t j
+    arrive zero k = a₀
+    arrive (suc zero) k = a₁
+    arrive (suc (suc zero)) k = a₂
+    arrive (suc (suc (suc j))) k = absurd (omega arith)
 
-  asked : (t : ℕ) → Asked corridor curves t m m
-  asked t = record {
-    limits = λ n k. refl;
-    merge = λ n i i′ j e l past q. let z = merges n i i′ j e l .3 in
-        subst (λ n. m .splits n past q ≡ m .splits n (question corridor curves i i′ j t ∷ past) q) (sym z)
-        (fair .shares past q ∙ sym (fair .shares (question corridor curves i i′ j t ∷ past) q));
-    other = λ n f past q. refl;
-  }
+asked : (t : ℕ) → Asked corridor curves t fairMeaning fairMeaning
+asked t = record {
+  limits = λ n k. refl;
+  merge = λ n i i′ j e l past q. refl;
+  other = λ n f past q. refl;
+}
 
-  filled-from : (t : ℕ) → rowsAt t ≡ rowOf corridor curves 0 t ∷ rowOf corridor curves 1 t ∷ rowOf corridor curves 2 t ∷ [] → Filled corridor curves t (replicate 3 blank) (rowsAt t)
-  filled-from t e = subst (Filled corridor curves t (replicate 3 blank)) (sym e) (record { as-many = refl; filled = filled; beyond = beyond })
-    where
-      filled : (i : ℕ) (d : StepRow) → i < 3 → getD (rowOf corridor curves 0 t ∷ rowOf corridor curves 1 t ∷ rowOf corridor curves 2 t ∷ []) i d ≡ rowOf corridor curves i t
-      filled zero d k = refl
-      filled (suc zero) d k = refl
-      filled (suc (suc zero)) d k = refl
-      filled (suc (suc (suc i))) d k = absurd (omega arith)
+filled-from : (t : ℕ) → rowsAt t ≡ rowOf corridor curves 0 t ∷ rowOf corridor curves 1 t ∷ rowOf corridor curves 2 t ∷ [] → Filled corridor curves t (replicate 3 blank) (rowsAt t)
+filled-from t e = subst (Filled corridor curves t (replicate 3 blank)) (sym e) (record { as-many = refl; filled = filled; beyond = beyond })
+  where
+    filled : (i : ℕ) (d : StepRow) → i < 3 → getD (rowOf corridor curves 0 t ∷ rowOf corridor curves 1 t ∷ rowOf corridor curves 2 t ∷ []) i d ≡ rowOf corridor curves i t
+    filled zero d k = refl
+    filled (suc zero) d k = refl
+    filled (suc (suc zero)) d k = refl
+    filled (suc (suc (suc i))) d k = absurd (omega arith)
 
-      beyond : (i : ℕ) (d : StepRow) → 3 ≤ i → getD (rowOf corridor curves 0 t ∷ rowOf corridor curves 1 t ∷ rowOf corridor curves 2 t ∷ []) i d ≡ getD (replicate 3 blank) i d
-      beyond zero d k = absurd (omega arith)
-      beyond (suc zero) d k = absurd (omega arith)
-      beyond (suc (suc zero)) d k = absurd (omega arith)
-      beyond (suc (suc (suc i))) d k = refl
+    beyond : (i : ℕ) (d : StepRow) → 3 ≤ i → getD (rowOf corridor curves 0 t ∷ rowOf corridor curves 1 t ∷ rowOf corridor curves 2 t ∷ []) i d ≡ getD (replicate 3 blank) i d
+    beyond zero d k = absurd (omega arith)
+    beyond (suc zero) d k = absurd (omega arith)
+    beyond (suc (suc zero)) d k = absurd (omega arith)
+    beyond (suc (suc (suc i))) d k = refl
 
-  answered : (h : History) → clock h < 1000000 → Law corridor curves (booked h (clock h)) m (clock h)
-      → rowsAt (clock h) ≡ rowOf corridor curves 0 (clock h) ∷ rowOf corridor curves 1 (clock h) ∷ rowOf corridor curves 2 (clock h) ∷ []
-      → Answers corridor curves h (stepFrom m (clock h))
-  answered h b law rows = (inr (lit≤ tt, inr (b, (law, filled-from (clock h) rows, asked (clock h), fair .lawful))), λ k e. absurd (let z : _≡_ {A = ℕ} 0 1 = cc in omega arith))
+answered : (h : History) → clock h < 1000000 → Law corridor curves (booked h (clock h)) fairMeaning (clock h)
+    → rowsAt (clock h) ≡ rowOf corridor curves 0 (clock h) ∷ rowOf corridor curves 1 (clock h) ∷ rowOf corridor curves 2 (clock h) ∷ []
+    → Answers corridor curves h (stepFrom (clock h))
+answered h b law rows = (inr (lit≤ tt, inr (b, (law, filled-from (clock h) rows, asked (clock h), fair-lawful))), λ k e. absurd (let z : _≡_ {A = ℕ} 0 1 = cc in omega arith))
 
-  fits : (b : List ℕ) (u n : ℕ) → b ≡ [] → n ≤ 500 → length (drop u b) + n ≤ 500
-  fits b u n e l = rw e (simp length-drop (omega arith))
+fits : (b : List ℕ) (u n : ℕ) → b ≡ [] → n ≤ 500 → length (drop u b) + n ≤ 500
+fits b u n e l = rw e (simp length-drop (omega arith))
 
-  -- the calls up to each step, and up to the questions
-  abbrev h₀ : History
-  h₀ = book 2 4 3 (told tt) ∷ book 1 4 6 (told tt) ∷ []
+-- the calls up to each step, and up to the questions
+abbrev h₀ : History
+h₀ = book 2 4 3 (told tt) ∷ book 1 4 6 (told tt) ∷ []
 
-  abbrev h₄ : History
-  h₄ = stepFrom m 3 ∷ stepFrom m 2 ∷ stepFrom m 1 ∷ stepFrom m 0 ∷ h₀
+abbrev h₄ : History
+h₄ = stepFrom 3 ∷ stepFrom 2 ∷ stepFrom 1 ∷ stepFrom 0 ∷ h₀
 
-  abbrev links : History
-  links = ask-link 3 (told (tells 8 3 3 0 (Some 2))) ∷ ask-link 2 (told (tells 3 3 3 0 (Some 2))) ∷ ask-link 1 (told (tells 6 5 6 1 (Some 2))) ∷ h₄
+abbrev links : History
+links = ask-link 3 (told (tells 8 3 3 0 (Some 2))) ∷ ask-link 2 (told (tells 3 3 3 0 (Some 2))) ∷ ask-link 1 (told (tells 6 5 6 1 (Some 2))) ∷ h₄
 
-  abbrev nodes : History
-  nodes = ask-exit 4 (told 3) ∷ ask-entrance 2 (told 0) ∷ ask-entrance 1 (told 0) ∷ links
+abbrev nodes : History
+nodes = ask-exit 4 (told 3) ∷ ask-entrance 2 (told 0) ∷ ask-entrance 1 (told 0) ∷ links
 
-  follows₀ : Follows corridor curves (book 2 4 3 (told tt) ∷ book 1 4 6 (told tt) ∷ [])
-  unfolding curves ons offs all
-  follows₀ = (
+follows₀ : Follows corridor curves (book 2 4 3 (told tt) ∷ book 1 4 6 (told tt) ∷ [])
+unfolding curves ons offs all
+follows₀ = (
+  (
+    record { came = came; left = left },
+    inr ((0, (refl, refl)), inr ((2, (refl, refl)), inr ((2, (0, (refl, refl), along refl (there refl refl))), inr ((lit≤ tt, lit≤ tt), inr ((λ j w. fits [] _ 6 refl (lit≤ tt)), tt))))),
+  ),
+  inr ((1, (refl, refl)), inr ((2, (refl, refl)), inr ((2, (1, (refl, refl), along refl (there refl refl))), inr ((lit≤ tt, lit≤ tt), inr ((λ j w. fits [] _ 3 refl (lit≤ tt)), tt))))),
+)
+  where
+    came : (i : ℕ) → i < 3 → curves .came i 0 ≡ []
+    came zero k = refl
+    came (suc zero) k = refl
+    came (suc (suc i)) k = refl
+
+    left : (i : ℕ) → i < 3 → curves .left i 0 ≡ 0
+    left zero k = refl
+    left (suc zero) k = refl
+    left (suc (suc i)) k = refl
+
+four : Follows corridor curves h₄
+unfolding curves ons offs all car Arrive split
+four = (
+  (
     (
-      record { came = came; left = left },
-      inr ((0, (refl, refl)), inr ((2, (refl, refl)), inr ((2, (0, (refl, refl), along refl (there refl refl))), inr ((lit≤ tt, lit≤ tt), inr ((λ j w. fits [] _ 6 refl (lit≤ tt)), tt))))),
+      (follows₀, answered h₀ (lit< tt) (law-from _ 0 refl refl refl refl refl refl) refl),
+      answered (stepFrom 0 ∷ h₀) (lit< tt) (law-from _ 1 refl refl refl refl refl refl) refl,
     ),
-    inr ((1, (refl, refl)), inr ((2, (refl, refl)), inr ((2, (1, (refl, refl), along refl (there refl refl))), inr ((lit≤ tt, lit≤ tt), inr ((λ j w. fits [] _ 3 refl (lit≤ tt)), tt))))),
-  )
-    where
-      came : (i : ℕ) → i < 3 → curves .came i 0 ≡ []
-      came zero k = refl
-      came (suc zero) k = refl
-      came (suc (suc i)) k = refl
+    answered (stepFrom 1 ∷ stepFrom 0 ∷ h₀) (lit< tt) (law-from _ 2 refl refl refl refl refl refl) refl,
+  ),
+  answered (stepFrom 2 ∷ stepFrom 1 ∷ stepFrom 0 ∷ h₀) (lit< tt) (law-from _ 3 refl refl refl refl refl refl) refl,
+)
 
-      left : (i : ℕ) → i < 3 → curves .left i 0 ≡ 0
-      left zero k = refl
-      left (suc zero) k = refl
-      left (suc (suc i)) k = refl
-
-  four : Follows corridor curves h₄
-  unfolding curves ons offs all car Arrive split
-  four = (
+questions : Follows corridor curves nodes
+unfolding curves ons offs all car
+questions = (
+  (
     (
-      (
-        (follows₀, answered h₀ (lit< tt) (law-from _ 0 refl refl refl refl refl refl) refl),
-        answered (stepFrom m 0 ∷ h₀) (lit< tt) (law-from _ 1 refl refl refl refl refl refl) refl,
-      ),
-      answered (stepFrom m 1 ∷ stepFrom m 0 ∷ h₀) (lit< tt) (law-from _ 2 refl refl refl refl refl refl) refl,
+      (((four, inr ((lit≤ tt, lit≤ tt), refl)), inr ((lit≤ tt, lit≤ tt), refl)), inr ((lit≤ tt, lit≤ tt), refl)),
+      inr ((0, (refl, refl)), λ j w. let z : 0 ∷ [] ≡ j ∷ [] = w .1 in let e : 0 ≡ j = cc in subst (λ j. 0 ≡ length (waiting corridor curves (replicate 6 4) j 4)) e refl),
     ),
-    answered (stepFrom m 2 ∷ stepFrom m 1 ∷ stepFrom m 0 ∷ h₀) (lit< tt) (law-from _ 3 refl refl refl refl refl refl) refl,
-  )
+    inr ((1, (refl, refl)), λ j w. let z : 1 ∷ [] ≡ j ∷ [] = w .1 in let e : 1 ≡ j = cc in subst (λ j. 0 ≡ length (waiting corridor curves (replicate 3 4) j 4)) e refl),
+  ),
+  inr ((2, (refl, refl)), λ i w. let z : 2 ∷ [] ≡ i ∷ [] = w .0 in let e : 2 ≡ i = cc in subst (λ i. 3 ≡ goneBy h₄ i) e refl),
+)
 
-  questions : Follows corridor curves nodes
-  unfolding curves ons offs all car
-  questions = (
+follows : Follows corridor curves worked
+unfolding curves ons offs all car Arrive split
+follows = (
+  (
     (
-      (
-        (((four, inr ((lit≤ tt, lit≤ tt), refl)), inr ((lit≤ tt, lit≤ tt), refl)), inr ((lit≤ tt, lit≤ tt), refl)),
-        inr ((0, (refl, refl)), λ j w. let z : 0 ∷ [] ≡ j ∷ [] = w .1 in let e : 0 ≡ j = cc in subst (λ j. 0 ≡ length (waiting corridor curves (replicate 6 4) j 4)) e refl),
-      ),
-      inr ((1, (refl, refl)), λ j w. let z : 1 ∷ [] ≡ j ∷ [] = w .1 in let e : 1 ≡ j = cc in subst (λ j. 0 ≡ length (waiting corridor curves (replicate 3 4) j 4)) e refl),
+      (questions, answered nodes (lit< tt) (law-from _ 4 refl refl refl refl refl refl) refl),
+      answered (stepFrom 4 ∷ nodes) (lit< tt) (law-from _ 5 refl refl refl refl refl refl) refl,
     ),
-    inr ((2, (refl, refl)), λ i w. let z : 2 ∷ [] ≡ i ∷ [] = w .0 in let e : 2 ≡ i = cc in subst (λ i. 3 ≡ goneBy h₄ i) e refl),
-  )
+    answered (stepFrom 5 ∷ stepFrom 4 ∷ nodes) (lit< tt) (law-from _ 6 refl refl refl refl refl refl) refl,
+  ),
+  answered (stepFrom 6 ∷ stepFrom 5 ∷ stepFrom 4 ∷ nodes) (lit< tt) (law-from _ 7 refl refl refl refl refl refl) refl,
+)
 
-  follows : Follows corridor curves (worked m)
-  unfolding curves ons offs all car Arrive split
-  follows = (
-    (
-      (
-        (questions, answered nodes (lit< tt) (law-from _ 4 refl refl refl refl refl refl) refl),
-        answered (stepFrom m 4 ∷ nodes) (lit< tt) (law-from _ 5 refl refl refl refl refl refl) refl,
-      ),
-      answered (stepFrom m 5 ∷ stepFrom m 4 ∷ nodes) (lit< tt) (law-from _ 6 refl refl refl refl refl refl) refl,
-    ),
-    answered (stepFrom m 6 ∷ stepFrom m 5 ∷ stepFrom m 4 ∷ nodes) (lit< tt) (law-from _ 7 refl refl refl refl refl refl) refl,
-  )
+-- a run that agrees with these curves is empty where they are
+same-empty : (c d : Curves) (b : ℕ → List ℕ) (t : ℕ) → Agree corridor c d t → Empty corridor c b t → Empty corridor d b t
+same-empty c d b t a e = record {
+  none-waits = λ j k. ap (λ vs. drop (length vs) (b (road j .from))) (sym (a t j (omega arith) k .0)) ∙ e .none-waits j k;
+  none-drives = λ i k. ap₂ drop (sym (a t i (omega arith) k .1)) (sym (a t i (omega arith) k .0)) ∙ e .none-drives i k;
+}
 
-  -- a run that agrees with these curves is empty where they are
-  same-empty : (c d : Curves) (b : ℕ → List ℕ) (t : ℕ) → Agree corridor c d t → Empty corridor c b t → Empty corridor d b t
-  same-empty c d b t a e = record {
-    none-waits = λ j k. ap (λ vs. drop (length vs) (b (road j .from))) (sym (a t j (omega arith) k .0)) ∙ e .none-waits j k;
-    none-drives = λ i k. ap₂ drop (sym (a t i (omega arith) k .1)) (sym (a t i (omega arith) k .0)) ∙ e .none-drives i k;
-  }
+agree : (c : Curves) → Follows corridor c worked → Agree corridor curves c 8
+agree c f = one-plain-run corridor sound worked worked curves c refl follows f .1
 
-  agree : (c : Curves) → Follows corridor c (worked m) → Agree corridor curves c 8
-  agree c f = one-plain-run corridor sound (worked m) (worked m) curves c refl follows f .1
+empty : Empty corridor curves (booked worked 8) 8
+unfolding curves ons offs all
+empty = record { none-waits = none-waits; none-drives = none-drives }
+  where
+    none-waits : (j : ℕ) → j < 3 → waiting corridor curves (booked worked 8 (road j .from)) j 8 ≡ []
+    none-waits zero k = refl
+    none-waits (suc zero) k = refl
+    none-waits (suc (suc j)) k = refl
 
-  empty : Empty corridor curves (booked (worked m) 8) 8
-  unfolding curves ons offs all
-  empty = record { none-waits = none-waits; none-drives = none-drives }
-    where
-      none-waits : (j : ℕ) → j < 3 → waiting corridor curves (booked (worked m) 8 (road j .from)) j 8 ≡ []
-      none-waits zero k = refl
-      none-waits (suc zero) k = refl
-      none-waits (suc (suc j)) k = refl
+    none-drives : (i : ℕ) → i < 3 → on corridor curves i 8 ≡ []
+    none-drives zero k = refl
+    none-drives (suc zero) k = refl
+    none-drives (suc (suc i)) k = refl
 
-      none-drives : (i : ℕ) → i < 3 → on corridor curves i 8 ≡ []
-      none-drives zero k = refl
-      none-drives (suc zero) k = refl
-      none-drives (suc (suc i)) k = refl
-
-  busy : Empty corridor curves (booked (worked m) 7) 7 → ⊥
-  unfolding curves ons offs all car
-  busy e = let z : car 6 ∷ [] ≡ [] = e .none-drives 2 (lit< tt) in let y : _≡_ {A = ℕ} 0 1 = cc in omega arith
+busy : Empty corridor curves (booked worked 7) 7 → ⊥
+unfolding curves ons offs all car
+busy e = let z : car 6 ∷ [] ≡ [] = e .none-drives 2 (lit< tt) in let y : _≡_ {A = ℕ} 0 1 = cc in omega arith
 
 pub corridor-worked : Corridor-worked
-corridor-worked m fair = record {
-  runs = (curves, follows m fair);
-  answers = λ h c e f. one-plain-run corridor sound h (worked m) c curves e f (follows m fair) .0;
-  not-yet = λ c f e. busy m fair (same-empty m fair c curves _ 7 (λ s i l k. let a = agree m fair c f s i (omega arith) k in (sym (a .0), sym (a .1))) e);
-  empty = λ c f. same-empty m fair curves c _ 8 (agree m fair c f) (empty m fair);
+corridor-worked = record {
+  runs = (curves, follows);
+  answers = λ h c e f. one-plain-run corridor sound h worked c curves e f follows .0;
+  not-yet = λ c f e. busy (same-empty c curves _ 7 (λ s i l k. let a = agree c f s i (omega arith) k in (sym (a .0), sym (a .1))) e);
+  empty = λ c f. same-empty curves c _ 8 (agree c f) empty;
 }
 
 -- how many of the first k vehicles take a link, by their exits

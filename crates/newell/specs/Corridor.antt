@@ -2,17 +2,14 @@
 use Rattle.newell.specs.declared.records.LinkState.{LinkState}
 use Rattle.newell.specs.declared.records.StepRow.{StepRow}
 use Rattle.network.specs.declared.link.Link.{Link}
-use Rattle.merge.specs.declared.question.Question.{Question}
 use mathlib.Core.Path.{_≡_}
 use mathlib.Core.List.{List, [], _∷_, map}
-use mathlib.Core.Bool.{cond}
 use Rattle.std.specs.declared.option.Option.{Option}
 use Rattle.std.specs.declared.option.Option.the-variants.{Some, None}
-use Prim.Native.Nat.{ℕ, suc, zero, _+_, _-_, _*_, _/_}
-use lib.Dec.{leb}
+use Prim.Native.Nat.{ℕ, suc, zero}
 use lib.ListN.{getD, replicate}
 use Rattle.network.specs.Net.{Net, next}
-use Rattle.merge.specs.Rules.{Meaning, Lawful}
+use Rattle.merge.specs.Sharing.{fairMeaning}
 use Rattle.newell.specs.Plain.{Curves, S, R, on, exits, Passable, Greatest}
 use Rattle.newell.specs.History.{History, Event, book, step, ask-link, ask-entrance, ask-exit, told, call, booked, blank, Follows}
 use Rattle.newell.specs.Promise.{Empty}
@@ -25,14 +22,6 @@ road (suc (suc i)) = record { from = 3; to = 4; free = 2; wave = 2; capacity = 3
 
 abbrev pub corridor : Net
 corridor = record { nodes = 4; links = 3; link = road; route = λ n x. None }
-
--- a rule that shares the places at the merge by the legs' capacities, whatever was asked before
-abbrev pub shared : ℕ → Question → ℕ × ℕ
-shared a q = cond (leb (q .s1 + q .s2) (q .r)) (q .s1, q .s2) (cond (leb (q .s1) a) (q .s1, q .r - q .s1) (cond (leb (q .s2) (q .r - a)) (q .r - q .s2, q .s2) (a, q .r - a)))
-
-pub record Fair (m : Meaning) : Type 0 where
-  pub lawful : Lawful m
-  pub shares : (past : List Question) (q : Question) → m .splits 3 past q ≡ shared (q .r * q .q1 / (q .q1 + q .q2)) q
 
 -- the rows that the step from each clock leaves: for each link came on, left, travel time
 abbrev pub row : ℕ → ℕ → Option ℕ → StepRow
@@ -50,30 +39,27 @@ rowsAt t = getD (
     ∷ (row 0 0 None ∷ row 0 0 None ∷ row 0 1 (Some 2) ∷ [])
     ∷ []) t []
 
-abbrev pub stepFrom : Meaning → ℕ → Event
-stepFrom m t = step m (replicate 3 blank) (told tt) m (rowsAt t)
+abbrev pub stepFrom : ℕ → Event
+stepFrom t = step fairMeaning (replicate 3 blank) (told tt) fairMeaning (rowsAt t)
 
 abbrev pub tells : ℕ → ℕ → ℕ → ℕ → Option ℕ → LinkState
 tells on off arrived queue travel = record { on = on; off = off; arrived = arrived; queue = queue; travel = travel }
 
--- Six vehicles are booked at 1 and three at 2, all for 4; after four steps every question is asked; then come four steps more. The last call first.
-abbrev pub worked : Meaning → History
-worked m =
-    stepFrom m 7 ∷ stepFrom m 6 ∷ stepFrom m 5 ∷ stepFrom m 4
+-- Under `fair`, six vehicles are booked at 1 and three at 2, all for 4; after four steps every question is asked; then come four steps more. The last call first.
+abbrev pub worked : History
+worked =
+    stepFrom 7 ∷ stepFrom 6 ∷ stepFrom 5 ∷ stepFrom 4
     ∷ ask-exit 4 (told 3) ∷ ask-entrance 2 (told 0) ∷ ask-entrance 1 (told 0)
     ∷ ask-link 3 (told (tells 8 3 3 0 (Some 2))) ∷ ask-link 2 (told (tells 3 3 3 0 (Some 2))) ∷ ask-link 1 (told (tells 6 5 6 1 (Some 2)))
-    ∷ stepFrom m 3 ∷ stepFrom m 2 ∷ stepFrom m 1 ∷ stepFrom m 0
+    ∷ stepFrom 3 ∷ stepFrom 2 ∷ stepFrom 1 ∷ stepFrom 0
     ∷ book 2 4 3 (told tt) ∷ book 1 4 6 (told tt) ∷ []
 
 -- There is a plain run for these calls, with these answers. Every plain run for them answers so; it is empty at clock 8, and not at 7.
-pub record WorkedThrough (m : Meaning) : Type 0 where
-  pub runs : (c : Curves) × Follows corridor c (worked m)
-  pub answers : (h : History) (c : Curves) → map call h ≡ map call (worked m) → Follows corridor c h → h ≡ worked m
-  pub not-yet : (c : Curves) → Follows corridor c (worked m) → Empty corridor c (booked (worked m) 7) 7 → ⊥
-  pub empty : (c : Curves) → Follows corridor c (worked m) → Empty corridor c (booked (worked m) 8) 8
-
-abbrev pub Corridor-worked : Type 0
-Corridor-worked = (m : Meaning) → Fair m → WorkedThrough m
+pub record Corridor-worked : Type 0 where
+  pub runs : (c : Curves) × Follows corridor c worked
+  pub answers : (h : History) (c : Curves) → map call h ≡ map call worked → Follows corridor c h → h ≡ worked
+  pub not-yet : (c : Curves) → Follows corridor c worked → Empty corridor c (booked worked 7) 7 → ⊥
+  pub empty : (c : Curves) → Follows corridor c worked → Empty corridor c (booked worked 8) 8
 
 -- Of vehicles for p, p, q, p three pass, where four may be sent and two taken towards p and five towards q: the fourth finds its link full.
 abbrev pub Diverge-worked : Type 0

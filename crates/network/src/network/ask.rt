@@ -34,6 +34,14 @@ impl Network {
         self.layout.links[i]
     }
 
+    // How many may pass an end of a link in a step.
+    pub fn capacity(&self, i: usize) -> u8
+        requires { ⌜ i < netOf (now self) .links ⌝ }
+        ensures { λ r. ⌜ r ≡ netOf (now (self .entry)) .link i .capacity ⌝ }
+    {
+        self.layout.links[i].capacity
+    }
+
     // The node where a link ends.
     fn end(&self, i: usize) -> u8
         requires { ⌜ i < netOf (now self) .links ⌝ }
@@ -54,7 +62,7 @@ impl Network {
     }
 
     // The route row's link.
-    fn route(&self, n: usize, x: u8) -> Option<usize>
+    pub(super) fn route(&self, n: usize, x: u8) -> Option<usize>
         ensures { λ r. ⌜ r ≡ netOf (now (self .entry)) .route n x ⌝ }
     {
         let x = x as usize;

@@ -1,0 +1,5 @@
+pub mod Turning
+pub mod Marking
+pub mod Changing
+pub mod Noting
+pub mod Spacing
