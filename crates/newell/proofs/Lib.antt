@@ -18,3 +18,4 @@ pub mod Safety
 pub mod Telling
 pub mod Leasts
 pub mod Numbering
+pub mod Existing

@@ -19,7 +19,7 @@ clash : {P : Type 0} → _≡_ {A = ℕ} 0 1 → P
 clash e = absurd (omega arith)
 
 -- what can be decided at each number can be sought below a bound
-some-below : (P : ℕ → Type 0) → ((i : ℕ) → P i ⊎ (P i → ⊥)) → (n : ℕ) → ((i : ℕ) × (i < n) × P i) ⊎ ((i : ℕ) → i < n → P i → ⊥)
+pub some-below : (P : ℕ → Type 0) → ((i : ℕ) → P i ⊎ (P i → ⊥)) → (n : ℕ) → ((i : ℕ) × (i < n) × P i) ⊎ ((i : ℕ) → i < n → P i → ⊥)
 some-below P dec zero = inr (λ i l p. omega arith)
 some-below P dec (suc n) = go (dec n) (some-below P dec n)
   where
@@ -46,7 +46,7 @@ module _ (net : Net) (x : ℕ) where
   is-nil [] = inl refl
   is-nil (y ∷ ys) = inr (λ e. clash cc)
 
-  walk? : (n i : ℕ) → Walk net x i n ⊎ (Walk net x i n → ⊥)
+  pub walk? : (n i : ℕ) → Walk net x i n ⊎ (Walk net x i n → ⊥)
   unfolding Turn
   walk? zero i = inr (λ w. go (turn w))
     where

@@ -1,9 +1,16 @@
 // The theorems, each the contract of a function that does nothing, so that no check passes without its proof.
-ghost use Rattle.newell.specs.Promise.{One-plain-run, At-each-moment, Vehicles-conserved, Bounds-kept, Order-kept, Travel-times, Runs-clear};
+ghost use Rattle.newell.specs.Promise.{Plain-run-there, One-plain-run, At-each-moment, Vehicles-conserved, Bounds-kept, Order-kept, Travel-times, Runs-clear};
 ghost use Rattle.newell.specs.Least.{Nodes-balanced, Least-of-three};
 ghost use Rattle.newell.specs.Numbers.{Longest-walk-there, Longest-steps-there, Period-opens};
 ghost use Rattle.newell.specs.Corridor.{Corridor-worked, Diverge-worked};
 ghost use Rattle.newell.specs.Now.{Step-carries, Booking-carries, Opening-starts, Idle-carries, Link-tells, Entrance-tells, Exit-tells, Ran-carries, Each-moment, Reached-safe};
+
+// For every list of calls there is a plain run.
+pub fn plain_run_there() -> u8
+    ensures { λ _. ⌜ Plain-run-there ⌝ }
+{
+    0
+}
 
 // Two plain runs for the same calls agree, in every answer and at every clock.
 pub fn one_plain_run() -> u8
