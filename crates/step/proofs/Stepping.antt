@@ -103,7 +103,7 @@ module _ (n : Network) (y : Yard) (t : ℕ) (built : Built (netOf n) y) (reached
   pub plannable : Plannable (netOf n) y
   plannable = record { full = built .full; laid = built .laid; safe = readable; enough = sends-held }
 
-  module _ (m : Meaning) (keeps : Lawful m) (rr k : ℕ → ℕ) (passes : (q : ℕ) → Passes (netOf n) (viewOf y t) m k q)
+  module _ (early : t < 1000000) (m : Meaning) (keeps : Lawful m) (rr k : ℕ → ℕ) (passes : (q : ℕ) → Passes (netOf n) (viewOf y t) m k q)
       (caps : (j : ℕ) → j < netOf n .links → rr j ≡ takesOf (netOf n) y j) where
     arrive-is : (j : ℕ) → j < netOf n .links → arrive (netOf n) (viewOf y t) k j ≡ exits (take (rr j) (holds y (48 + j))) ++ cameBy (netOf n) (holds y) k (netOf n .links) j
     unfolding going
@@ -117,11 +117,11 @@ module _ (n : Network) (y : Yard) (t : ℕ) (built : Built (netOf n) y) (reached
         ∙ ap (λ q. q + length (cameBy (netOf n) (holds y) k (netOf n .links) j)) (exits-length (take (rr j) (holds y (48 + j))))
 
     enough : (i : ℕ) → i < netOf n .links → k i ≤ length (holds y i)
-    enough i l = let a = outgoing (netOf n) (viewOf y t) m k passes keeps reached i l in omega (arith, a, sends-held i l)
+    enough i l = let a = outgoing (netOf n) (viewOf y t) m k passes keeps early reached i l in omega (arith, a, sends-held i l)
 
     room : (j : ℕ) → j < netOf n .links → length (holds y j) + length (arrive (netOf n) (viewOf y t) k j) ≤ linkOf (n .layout) j .storage
     room j l =
-        let a = incoming (netOf n) (viewOf y t) m k passes keeps reached j l in
+        let a = incoming (netOf n) (viewOf y t) m k passes keeps early reached j l in
         let b : offs y j (linkOf (n .layout) j .wave - 1) ≤ offs y j 0 = le (λ s f. f .link j l .waving) in
         omega (arith, a, b, holding j l, readable j l .taking)
 

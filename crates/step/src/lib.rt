@@ -2,5 +2,3 @@
 // new readings are noted.
 pub mod advance;
 pub mod note;
-
-pub use advance::advance;

@@ -43,4 +43,4 @@ returns g c =
     }
 
 pub add-n·end : need.add-n·end
-add-n·end g c = omega (arith, right-of (c .args .net .now) .nodes, c .nodes .ensures)
+add-n·end g c = omega (arith, right-of (c .args .net .now) .nodes, c .nodes-n-end .ensures)

@@ -27,7 +27,7 @@ shift-requires g c κs = record {
   takes = omega (arith, right-of (c .args .net .now) .count, c .take-caps .kept .takes);
   outs = omega (arith, right-of (c .args .net .now) .count, c .plan .kept .outs);
   times = right-of (c .args .net .now) .count;
-  shiftable = shiftable (c .args .net .now) (c .args .yard .now) (c .args .clock) (c .pre .built) (c .pre .reached)
+  shiftable = shiftable (c .args .net .now) (c .args .yard .now) (c .args .clock) (c .pre .built) (c .pre .reached) (c .pre .early)
       (g .R·MergeRule .meaning (c .args .rule .now)) (g .R·MergeRule·met .lawful (c .args .rule .now)) (λ i. getD (c .take-caps .last .takes) i 0) (λ i. getD (c .plan .last .outs) i 0) (c .plan .ensures .passes) (c .take-caps .ensures);
 }
 
@@ -39,10 +39,10 @@ note-all-requires g c κs = record {
   outs = omega (arith, right-of (c .args .net .now) .count, c .plan .kept .outs, c .links .ensures);
   times = omega (arith, right-of (c .args .net .now) .count, c .shift .kept .times, c .links .ensures);
   rows = omega (arith, c .pre .rows, c .links .ensures);
-  small = λ i l. after-small (c .args .net .now) (c .args .yard .now) (c .args .clock) (c .pre .built) (c .pre .reached)
+  small = λ i l. after-small (c .args .net .now) (c .args .yard .now) (c .args .clock) (c .pre .built) (c .pre .reached) (c .pre .early)
       (g .R·MergeRule .meaning (c .args .rule .now)) (g .R·MergeRule·met .lawful (c .args .rule .now)) (λ i. getD (c .take-caps .last .takes) i 0) (λ i. getD (c .plan .last .outs) i 0) (c .plan .ensures .passes) (c .take-caps .ensures)
       (c .shift .last .yard) (c .shift .ensures .shifted) i (omega (arith, l, c .links .ensures));
-  more = λ i l. after-more (c .args .net .now) (c .args .yard .now) (c .args .clock) (c .pre .built) (c .pre .reached)
+  more = λ i l. after-more (c .args .net .now) (c .args .yard .now) (c .args .clock) (c .pre .built) (c .pre .reached) (c .pre .early)
       (g .R·MergeRule .meaning (c .args .rule .now)) (g .R·MergeRule·met .lawful (c .args .rule .now)) (λ i. getD (c .take-caps .last .takes) i 0) (λ i. getD (c .plan .last .outs) i 0) (c .plan .ensures .passes) (c .take-caps .ensures)
       (c .shift .last .yard) (c .shift .ensures .shifted) i (omega (arith, l, c .links .ensures));
 }
@@ -50,11 +50,11 @@ note-all-requires g c κs = record {
 pub returns : need.returns
 returns g c = record {
   same = c .note-all .ensures .still .same ∙ c .shift .ensures .shifted .same;
-  stepped = stepped (c .args .net .now) (c .args .yard .now) (c .args .clock) (c .pre .built) (c .pre .reached)
+  stepped = stepped (c .args .net .now) (c .args .yard .now) (c .args .clock) (c .pre .built) (c .pre .reached) (c .pre .early)
       (g .R·MergeRule .meaning (c .args .rule .now)) (g .R·MergeRule·met .lawful (c .args .rule .now)) (λ i. getD (c .take-caps .last .takes) i 0) (λ i. getD (c .plan .last .outs) i 0) (c .plan .ensures .passes) (c .take-caps .ensures)
       (c .shift .last .yard) (c .shift .ensures .shifted) (c .note-all .last .yard) (c .note-all .ensures .still) (g .R·MergeRule .meaning (c .plan .last .rule)) (c .args .rows .now) (c .note-all .last .rows) (λ i. getD (c .shift .last .times) i None)
       (c .shift .ensures .time) (λ i d l. c .note-all .ensures .written i d (omega (arith, l, c .links .ensures))) (λ i d l. c .note-all .ensures .beyond i d (omega (arith, l, c .links .ensures))) (c .note-all .kept .rows) (c .note-all .ensures .full) (c .plan .ensures .asked);
-  built = built-again (c .args .net .now) (c .args .yard .now) (c .args .clock) (c .pre .built) (c .pre .reached)
+  built = built-again (c .args .net .now) (c .args .yard .now) (c .args .clock) (c .pre .built) (c .pre .reached) (c .pre .early)
       (g .R·MergeRule .meaning (c .args .rule .now)) (g .R·MergeRule·met .lawful (c .args .rule .now)) (λ i. getD (c .take-caps .last .takes) i 0) (λ i. getD (c .plan .last .outs) i 0) (c .plan .ensures .passes) (c .take-caps .ensures)
       (c .shift .last .yard) (c .shift .ensures .shifted) (c .note-all .last .yard) (c .note-all .ensures .still) (g .R·MergeRule .meaning (c .plan .last .rule)) (c .args .rows .now) (c .note-all .last .rows) (λ i. getD (c .shift .last .times) i None)
       (c .shift .ensures .time) (λ i d l. c .note-all .ensures .written i d (omega (arith, l, c .links .ensures))) (λ i d l. c .note-all .ensures .beyond i d (omega (arith, l, c .links .ensures))) (c .note-all .kept .rows) (c .note-all .ensures .full) (c .plan .ensures .asked);
