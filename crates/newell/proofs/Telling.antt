@@ -1,18 +1,18 @@
 -- Questions and refusals in what the run holds, and calls one after another.
 use mathlib.Core.Path.{_≡_, refl, sym, ap, _∙_, subst}
 use mathlib.Core.List.{List, [], _∷_, _++_}
-use mathlib.Core.Logic.{_⊎_, inl, inr}
+use mathlib.Core.Logic.{_⊎_, inl, inr, ∥∥₁-elim, ∥∥₁-prop}
 use Prim.Native.Nat.{ℕ, _+_, _≤_, _<_}
 use native.Mathlib.Omega.{arith}
 use lib.ListN.{length}
 use Rattle.std.proofs.shelf.Lists.{append-nil}
 use Rattle.newell.specs.declared.records.StepRow.{StepRow}
-use Rattle.network.specs.Net.{Net, Entrance, Exit, Walk}
+use Rattle.network.specs.Net.{Net, Sound, Entrance, Exit, Walk}
 use Rattle.network.proofs.Places.{In, entered, leftFrom, only}
 use Rattle.merge.specs.Rules.{Meaning}
 use Rattle.newell.specs.Plain.{V, waiting}
 use Rattle.newell.specs.History.{History, book, step, ask-link, ask-entrance, ask-exit, told, refused, clock, booked}
-use Rattle.newell.specs.Now.{RunNow, Moment, Carries, Entrance-tells, Exit-tells, Ran, Ran-carries, Each-moment}
+use Rattle.newell.specs.Now.{RunNow, Opened, Moment, Carries, Reached, Entrance-tells, Exit-tells, Ran, Ran-carries, Each-moment}
 use Rattle.newell.proofs.Moments.{gone-left}
 use Rattle.newell.proofs.Carried.{idle-carries, opening-starts}
 
@@ -113,3 +113,10 @@ pub each-moment : Each-moment
 each-moment net sound r r″ o h q later h₀ e =
     let s = ran-cut net r r″ later h₀ (subst (λ h. Ran net r h r″) (sym e) q) in
     (s .0, subst (λ k. Moment net k (s .0)) (append-nil h₀) (ran-carries net r (s .0) h₀ [] (s .1) (opening-starts net sound r o)), s .2)
+
+-- some calls led to a run just opened, and to one that calls were carried to
+pub reached-opened : (net : Net) → Sound net → (r : RunNow) → Opened net r → Reached net r
+reached-opened net sound r o = ∣ ([], opening-starts net sound r o) ∣₁
+
+pub reached-ran : (net : Net) (r r′ : RunNow) (h : History) → Ran net r h r′ → Reached net r → Reached net r′
+reached-ran net r r′ h q t = ∥∥₁-elim t ∥∥₁-prop (λ p. ∣ (h ++ p .0, ran-carries net r r′ h (p .0) q (p .1)) ∣₁)
