@@ -113,7 +113,7 @@ module _ (net : Net) (sound : Sound net) (c : Curves) (T : ℕ) (booked : ℕ �
       (λ j k. ap (sumBy (ω j)) (lawful .grows t (net .link j .from) l .1) ∙ sumBy-append (ω j) (booked t (net .link j .from)) (lawful .grows t (net .link j .from) l .0)) in
       rw (← add-one) (omega arith)
 
-  -- (a) for the exit X, with its entering link g: those gone are those that left that link
+  -- for the exit X, with its entering link g: those gone are those that left that link
   module _ (h : ℕ) (most : (e x n : ℕ) → Served net e x n → n ≤ h) (X g : ℕ) (ex : Exit net X g) where
     ends : g < net .links
     ends = entered net X g (subst (In g) (sym (ex .0)) (inl refl)) .0

@@ -127,7 +127,7 @@ module _ (net : Net) (sound : Sound net) (c : Curves) (T : ℕ) (booked : ℕ �
     W-least : 1 ≤ W
     W-least = let i = longest .met .0 in omega (arith, longest .free i (longest .met .1), sound .link i (longest .met .1) .free-least)
 
-    -- in W + Z - 1 steps running Some vehicle moves, if there is one
+    -- in W + Z - 1 steps running some vehicle moves, if there is one
     block : (t : ℕ) → from ≤ t → t + (W + Z - 1) ≤ T → (left (t + (W + Z - 1)) < left t) ⊎ (left t ≡ 0)
     unfolding left waits drives
     block t a l = go (cases-lt (left (t + (W + Z - 1))) (left t))

@@ -164,10 +164,10 @@ longest-steps-there net sound =
             met g (inr e) = subst Met (sym e) (suc n, k, o .3)
 
 pub period-opens : Period-opens
-period-opens net m p z by low high = record {
+period-opens net m low high p z by = record {
   least = omega (arith, by .least 0, by .most 0);
-  first = λ s a b n i i′ j e o. let u = due n s in (u .0, u .1, u .2, by .opened (u .0) n (u .3) .0);
-  second = λ s a b n i i′ j e o. let u = due n s in (u .0, u .1, u .2, by .opened (u .0) n (u .3) .1);
+  first = λ s a b n i i′ j e o. let u = due n s in (u .0, u .1, u .2, by .opened (u .0) n (omega (arith, u .1)) (omega (arith, u .2)) (u .3) .0);
+  second = λ s a b n i i′ j e o. let u = due n s in (u .0, u .1, u .2, by .opened (u .0) n (omega (arith, u .1)) (omega (arith, u .2)) (u .3) .1);
 }
   where
     -- in any p n steps running there is a multiple

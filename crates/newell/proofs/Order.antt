@@ -18,15 +18,12 @@ use Rattle.newell.specs.Plain.{Curves, U, V, R, on, leavers, newcomers, exits,
 use Rattle.newell.specs.History.{History, clock, booked, handed, Follows}
 use Rattle.newell.specs.Promise.{InOrder}
 use Rattle.newell.proofs.Bounds.{none-booked, came-on, out, V-le-U, U-mono, earlier}
+use Rattle.newell.proofs.Weights.{drop-nil}
 use Rattle.newell.proofs.Timeline.{Timeline, timeline}
 
 take-nil : {X : Type 0} (n : ℕ) → take {A = X} n [] ≡ []
 take-nil zero = refl
 take-nil (suc n) = refl
-
-drop-nil : {X : Type 0} (n : ℕ) → drop {A = X} n [] ≡ []
-drop-nil zero = refl
-drop-nil (suc n) = refl
 
 take-min : {X : Type 0} (r : ℕ) (xs : List X) → take (length (take r xs)) xs ≡ take r xs
 take-min r xs = go (cases-lt r (length xs))

@@ -25,7 +25,7 @@ module _ (net : Net) (sound : Sound net) (c : Curves) (T : ℕ) (booked : ℕ �
     (W Z t : ℕ) (longest : LongestSteps net W) (W-least : 1 ≤ W) (opens : Opens net m t T Z) (fits : t + (W + Z - 1) ≤ T)
     (still-U : (i s : ℕ) → i < net .links → t ≤ s → s ≤ t + (W + Z - 1) → U net c i s ≡ U net c i t)
     (still-V : (i s : ℕ) → i < net .links → t ≤ s → s ≤ t + (W + Z - 1) → V net c i s ≡ V net c i t) where
-  -- in a late step all on a link may leave it, and an empty link takes Some
+  -- in a late step all on a link may leave it, and an empty link takes some
   ready : (i s : ℕ) → i < net .links → t + W ≤ s + 1 → s < t + (W + Z - 1) → V net c i t < U net c i t → 1 ≤ S net c i s
   ready i s h a b q =
       let f = longest .free i h in

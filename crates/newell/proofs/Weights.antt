@@ -105,7 +105,7 @@ module _ (net : Net) (sound : Sound net) (c : Curves) (w : ℕ → ℕ → ℕ) 
       ∙ total-swap (net .links) (net .links) (λ j i. cond (eqb (net .link i .to) (net .link j .from)) (worth i j) 0)
       ∙ total-ext (net .links) _ _ (λ i h. each-once net sound w i (leavers net c i t))
 
-drop-nil : {X : Type 0} (n : ℕ) → drop {A = X} n [] ≡ []
+pub drop-nil : {X : Type 0} (n : ℕ) → drop {A = X} n [] ≡ []
 drop-nil zero = refl
 drop-nil (suc n) = refl
 
