@@ -4,14 +4,19 @@ use mathlib.Core.List.{List, [], _∷_}
 use mathlib.Core.Logic.{_⊎_, inl, inr}
 use Rattle.std.specs.declared.option.Option.{Option}
 use Rattle.std.specs.declared.option.Option.the-variants.{Some, None}
-use Prim.Native.Nat.{ℕ, suc, zero, _+_, _-_, _*_, _/_, _%_, _≤_, _<_}
+use Prim.Native.Nat.{ℕ, suc, zero, _+_, _-_, _*_, _/_, _%_, _≤_, _<_, min}
 use native.Mathlib.Omega.{arith}
 use native.Mathlib.Nat.{mod-add-div', mod-lt, mul-mod-left}
 use Rattle.std.proofs.shelf.Tests.{cases-lt, cases-eq}
+use mathlib.Core.Bool.{cond}
+use lib.Dec.{lit<}
+use borrow.Author.Tests.{eq-eqb}
+use Rattle.merge.specs.declared.gate.Gate.{Gate}
+use Rattle.merge.specs.Metering.{cutLimit}
 use Rattle.network.specs.Net.{Net, Sound, Walk, there, along, Served, MostLinks, entering, leaving, next}
 use Rattle.network.proofs.Places.{leftFrom}
 use Rattle.network.proofs.Sorts.{off₁}
-use Rattle.newell.specs.Numbers.{Longest-walk-there, Longest-steps-there, Period-opens}
+use Rattle.newell.specs.Numbers.{Longest-walk-there, Longest-steps-there, Period-opens, Meter-opens}
 use Rattle.newell.proofs.Weights.{next-leaves}
 use Rattle.newell.proofs.Moments.{served-bound}
 
@@ -176,3 +181,24 @@ period-opens net m low high p z by = record {
         let q : ℕ = (s + (p n - 1)) / p n in
         let d = mod-add-div' (s + (p n - 1)) (p n) in let r = mod-lt (s + (p n - 1)) {m = p n} (omega (arith, by .least n)) in
         (q * p n, omega (arith, d, r, by .least n), omega (arith, d, r, by .least n, by .most n), mul-mod-left q (p n))
+
+-- the period of a gate, and 1 where there is none
+periodOf : Option Gate → ℕ
+periodOf None = 1
+periodOf (Some g) = g .period
+
+pub meter-opens : Meter-opens
+unfolding periodOf
+meter-opens net m low high gates z by = period-opens net m low high (λ n. periodOf (gates n)) z (record {
+  least = λ n. bounds n (gates n) refl .0;
+  most = λ n. bounds n (gates n) refl .1;
+  opened = λ t n a b e. subst (λ (l : ℕ × ℕ). (0 < l .0) × (0 < l .1)) (sym (by .limits t n a b)) (lit< tt, green (gates n) t e);
+})
+  where
+    bounds : (n : ℕ) (o : Option Gate) → gates n ≡ o → (1 ≤ periodOf o) × (periodOf o ≤ z)
+    bounds n None e = (omega arith, by .least)
+    bounds n (Some g) e = (g .timed .0, by .gate n g e)
+
+    green : (o : Option Gate) (t : ℕ) → t % periodOf o ≡ 0 → 0 < cutLimit o t 65535
+    green None t q = lit< tt
+    green (Some g) t q = subst (λ b. 0 < cond b (min (g .rate) 65535) 0) (sym (eq-eqb (t % g .period) 0 q)) (omega (arith, g .rated .0))

@@ -1,9 +1,13 @@
 -- The numbers that clearing asks for are there: H and W for every network that keeps the rules, and Z for every rule that opens each merge leg by a
--- period, as one without limits (period 1) and a ramp meter do.
+-- period, as a ramp meter over a rule without limits does.
 use mathlib.Core.Path.{_≡_}
 use Prim.Native.Nat.{ℕ, _%_, _≤_, _<_}
 use Rattle.network.specs.Net.{Net, Sound, MostLinks, LongestSteps}
-use Rattle.merge.specs.Rules.{Meaning}
+use Rattle.std.specs.declared.option.Option.{Option}
+use Rattle.std.specs.declared.option.Option.the-variants.{Some}
+use Rattle.merge.specs.declared.gate.Gate.{Gate}
+use Rattle.merge.specs.Rules.{Meaning, noLimit}
+use Rattle.merge.specs.Metering.{meterLimits}
 use Rattle.newell.specs.Promise.{Opens}
 
 abbrev pub Longest-walk-there : Type 0
@@ -20,3 +24,12 @@ pub record ByPeriod (m : ℕ → Meaning) (low high : ℕ) (p : ℕ → ℕ) (z 
 
 abbrev pub Period-opens : Type 0
 Period-opens = (net : Net) (m : ℕ → Meaning) (low high : ℕ) (p : ℕ → ℕ) (z : ℕ) → ByPeriod m low high p z → Opens net m low high z
+
+-- Rules without limits under a meter, with periods of at most z: 63 always does, and 1 where there is no gate.
+pub record Gated (m : ℕ → Meaning) (low high : ℕ) (gates : ℕ → Option Gate) (z : ℕ) : Type 0 where
+  pub least : 1 ≤ z
+  pub gate : (n : ℕ) (g : Gate) → gates n ≡ Some g → g .period ≤ z
+  pub limits : (t n : ℕ) → low ≤ t → t < high → m t .limits n t ≡ meterLimits gates noLimit n t
+
+abbrev pub Meter-opens : Type 0
+Meter-opens = (net : Net) (m : ℕ → Meaning) (low high : ℕ) (gates : ℕ → Option Gate) (z : ℕ) → Gated m low high gates z → Opens net m low high z

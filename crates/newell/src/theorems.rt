@@ -1,7 +1,7 @@
 // The theorems, each the contract of a function that does nothing, so that no check passes without its proof.
 ghost use Rattle.newell.specs.Promise.{Plain-run-there, One-plain-run, At-each-moment, Vehicles-conserved, Bounds-kept, Order-kept, Travel-times, Runs-clear};
 ghost use Rattle.newell.specs.Least.{Nodes-balanced, Least-of-three};
-ghost use Rattle.newell.specs.Numbers.{Longest-walk-there, Longest-steps-there, Period-opens};
+ghost use Rattle.newell.specs.Numbers.{Longest-walk-there, Longest-steps-there, Period-opens, Meter-opens};
 ghost use Rattle.newell.specs.Corridor.{Corridor-worked, Diverge-worked};
 ghost use Rattle.newell.specs.Now.{Step-carries, Booking-carries, Opening-starts, Idle-carries, Link-tells, Entrance-tells, Exit-tells, Ran-carries, Each-moment, Reached-safe};
 
@@ -96,6 +96,7 @@ pub fn clearing_numbers() -> u8
     ensures walk { λ _. ⌜ Longest-walk-there ⌝ }
     ensures steps { λ _. ⌜ Longest-steps-there ⌝ }
     ensures period { λ _. ⌜ Period-opens ⌝ }
+    ensures meter { λ _. ⌜ Meter-opens ⌝ }
 {
     0
 }
