@@ -1,28 +1,26 @@
 -- What was booked, waits, is on links or was spent: the account of a weight; and that of each exit.
 use Rattle.newell.specs.declared.records.Vehicle.{Vehicle}
-use mathlib.Core.Path.{_≡_, refl, sym, ap, ap₂, _∙_, subst, fun-ext}
-use mathlib.Core.List.{List, [], _∷_, _++_, map}
-use mathlib.Core.Bool.{Bool, true, false, cond}
+use mathlib.Core.Path.{_≡_, refl, sym, ap, _∙_, subst}
+use mathlib.Core.List.{List, [], _∷_, _++_}
+use mathlib.Core.Bool.{cond}
 use Rattle.std.specs.declared.option.Option.{Option}
 use Rattle.std.specs.declared.option.Option.the-variants.{Some, None}
-use mathlib.Core.Logic.{_⊎_, inl, inr}
-use Prim.Native.Nat.{ℕ, suc, zero, _+_, _-_, _*_, _≤_, _<_, min}
+use mathlib.Core.Logic.{inl}
+use Prim.Native.Nat.{ℕ, suc, zero, _+_, _-_, _≤_, _<_}
 use native.Mathlib.Omega.{arith}
-use native.Mathlib.Nat.{add-zero, add-suc, le-trans}
 use native.Mathlib.Numerals.{add-one}
 use lib.Dec.{eqb}
-use lib.ListN.{length, getD, take, drop, length-append, length-take, length-drop, length-map}
-use borrow.Author.Tests.{eqb-true, eq-eqb, ne-eqb}
-use Rattle.std.specs.shelf.Lists.{sumBy, kept-by, joined, All}
-use Rattle.std.proofs.shelf.Sums.{sumBy-cons, sumBy-append}
+use lib.ListN.{length, take, drop, length-append, length-take, length-drop}
+use borrow.Author.Tests.{eq-eqb, ne-eqb}
+use Rattle.std.specs.shelf.Lists.{sumBy, All}
+use Rattle.std.proofs.shelf.Sums.{sumBy-append}
 use Rattle.std.proofs.shelf.Lists.{drop-append-le, append-nil}
-use Rattle.std.proofs.shelf.Tests.{cases-lt, cases-eq, both-ways}
 use Rattle.network.specs.Net.{Net, Sound, Walk, there, along, next, onward, entering, leaving, Exit, Served}
-use Rattle.merge.specs.Rules.{Meaning, Lawful}
-use Rattle.newell.specs.Plain.{Curves, U, V, S, R, on, leavers, towards, waiting, arrivals, Law}
+use Rattle.merge.specs.Rules.{Meaning}
+use Rattle.newell.specs.Plain.{Curves, U, V, R, on, leavers, waiting, arrivals}
 use Rattle.newell.proofs.Timeline.{Timeline}
 use Rattle.network.proofs.Places.{In, only, enters, entered, Start, begins, follows, joins, first-branch, second-branch, start}
-use Rattle.newell.proofs.Bounds.{none-booked, came-on, out, V-le-U, U-mono, V-mono}
+use Rattle.newell.proofs.Bounds.{none-booked, came-on, out, U-mono}
 use Rattle.newell.proofs.Totals.{total, total-ext, total-two, total-none, total-one, sum-ext, sum-none}
 use Rattle.newell.proofs.Weights.{onto, Bound, ends-walk, came-bound, all-part, waits, drives, admitted, released, step-law}
 use Rattle.newell.proofs.Clearing.{sum-ones}
@@ -115,7 +113,7 @@ module _ (net : Net) (sound : Sound net) (c : Curves) (T : ℕ) (booked : ℕ �
       (λ j k. ap (sumBy (ω j)) (lawful .grows t (net .link j .from) l .1) ∙ sumBy-append (ω j) (booked t (net .link j .from)) (lawful .grows t (net .link j .from) l .0)) in
       rw (← add-one) (omega arith)
 
-  -- (a) for the exit X, with its entering link g: those gone are those that left that link
+  -- for the exit X, with its entering link g: those gone are those that left that link
   module _ (h : ℕ) (most : (e x n : ℕ) → Served net e x n → n ≤ h) (X g : ℕ) (ex : Exit net X g) where
     ends : g < net .links
     ends = entered net X g (subst (In g) (sym (ex .0)) (inl refl)) .0

@@ -2,23 +2,20 @@
 use Rattle.newell.specs.declared.records.Vehicle.{Vehicle}
 use mathlib.Core.Path.{_≡_, refl, sym, ap, _∙_, subst}
 use mathlib.Core.List.{List, [], _∷_, _++_, map}
-use mathlib.Core.Bool.{Bool, true, false, cond}
-use Rattle.std.specs.declared.option.Option.{Option}
-use Rattle.std.specs.declared.option.Option.the-variants.{Some, None}
 use mathlib.Core.Logic.{_⊎_, inl, inr}
-use Prim.Native.Nat.{ℕ, suc, zero, _+_, _-_, _≤_, _<_, min}
+use Prim.Native.Nat.{ℕ, suc, zero, _+_, _-_, _≤_, _<_}
 use native.Mathlib.Omega.{arith}
 use native.Mathlib.Nat.{add-zero, add-suc, le-trans}
 use native.Mathlib.Numerals.{add-one}
-use lib.ListN.{length, getD, take, drop, length-append, length-take, length-drop, length-map}
-use Rattle.std.specs.shelf.Lists.{kept-by, joined, All}
+use lib.ListN.{length, getD, take, length-append, length-take, length-drop, length-map}
+use Rattle.std.specs.shelf.Lists.{All}
 use Rattle.std.proofs.shelf.Elements.{all-map, all-getD}
 use Rattle.std.proofs.shelf.Lists.{getD-append-left, getD-append-right}
 use Rattle.std.proofs.shelf.Tests.{cases-lt}
 use Rattle.std.proofs.shelf.Sums.{countBy-le-length, length-kept-by}
-use Rattle.network.specs.Net.{Net, Kind, entrance, exit, mainline, merge, diverge, Sound, entering, leaving, Served, Entrance}
+use Rattle.network.specs.Net.{Net, exit, mainline, merge, diverge, Sound, entering, leaving, Served}
 use Rattle.merge.specs.Rules.{Meaning, Askable, Proper, Lawful}
-use Rattle.newell.specs.Plain.{Curves, U, V, S, R, on, leavers, towards, waiting, arrivals, question, Law}
+use Rattle.newell.specs.Plain.{Curves, U, V, S, R, on, leavers, towards, arrivals, question, Law}
 use Rattle.newell.proofs.Timeline.{Timeline}
 use Rattle.network.proofs.Places.{In, entered, leftFrom, End, exits, passes, first-leg, second-leg, branches, Start, begins, follows, joins, first-branch, second-branch, end, start}
 
@@ -96,7 +93,7 @@ module _ (net : Net) (sound : Sound net) (c : Curves) (booked : ℕ → List ℕ
   pub came-on : (j : ℕ) → j < net .links → U net c j (t + 1) ≡ U net c j t + length (arrivals net c (booked (net .link j .from)) j t)
   came-on j h = ap length (law .arrive j h) ∙ simp (length-append, length-map)
 
--- (b): bounds, over a lawful timeline
+-- bounds over a timeline
 module _ (net : Net) (sound : Sound net) (c : Curves) (T : ℕ) (booked : ℕ → ℕ → List ℕ) (m : ℕ → Meaning) (lawful : Timeline net c T booked m) where
   pub out : (t i : ℕ) → t < T → i < net .links → (k : ℕ) × (V net c i (t + 1) ≡ V net c i t + k) × (k ≤ S net c i t)
   out t i h l = sends net sound c (booked t) (m t) t (lawful .law t h) (lawful .keeps t h) (omega (arith, lawful .early)) (λ e. lawful .served t e (omega arith)) i l
@@ -146,7 +143,7 @@ module _ (net : Net) (sound : Sound net) (c : Curves) (T : ℕ) (booked : ℕ �
   pub capacity-out : (i t : ℕ) → i < net .links → t < T → V net c i (t + 1) ≤ V net c i t + net .link i .capacity
   capacity-out i t h l = let q = out t i l h in omega arith
 
-  -- None leaves before its free steps are over, in counts: all that have left by t had come on by t - f
+  -- none leaves before its free steps are over, in counts: all that have left by t had come on by t - f
   pub free-first : (i t : ℕ) → i < net .links → t ≤ T → V net c i t ≤ U net c i (t - net .link i .free)
   free-first i zero h l = omega (arith, lawful .new-left i h)
   free-first i (suc t) h l = let o = out t i l h in let v = free-first i t h (omega arith) in
@@ -189,7 +186,7 @@ module _ (net : Net) (sound : Sound net) (c : Curves) (T : ℕ) (booked : ℕ �
       go (inr w) rec = rw (r .1, getD-append-right (c .came i t) (r .0) (U net c i t) k d refl w)
           (fresh _ w (all-getD (λ v. v .since ≡ t + 1) (r .0) (k - U net c i t) d (let q′ : k < U net c i (t + 1) = rw add-one q in omega (arith, count)) (r .2)))
 
-  -- (b), of vehicles: one that leaves in the step from t has its free steps over
+  -- of vehicles: one that leaves in the step from t has its free steps over
   pub free-over : (i t k : ℕ) (d : Vehicle) → i < net .links → t < T → k < V net c i (t + 1)
       → getD (c .came i (t + 1)) k d .since + net .link i .free ≤ t + 1
   free-over i t k d h l q = go (cases-lt (t + 1) (net .link i .free)) (cases-lt (t + 1 - net .link i .free) (getD (c .came i (t + 1)) k d .since))
@@ -204,10 +201,3 @@ module _ (net : Net) (sound : Sound net) (c : Curves) (T : ℕ) (booked : ℕ �
           absurd (omega (arith, g, q, ap length (lawful .new-came i h)))
       go (inr w) (inl y) = absurd (omega (arith, ff, q, since i (t + 1) k d h (omega arith) (omega (arith, V-le-U i (t + 1) h (omega arith))) .before _ y))
       go (inr w) (inr y) = omega arith
-
-  -- the travel time's law: the last vehicle that has left by t + 1 came on at the first clock at which U reached V(t + 1)
-  pub travel : (i t : ℕ) (d : Vehicle) → i < net .links → t < T → 0 < V net c i (t + 1)
-      → (let z = getD (c .came i (t + 1)) (V net c i (t + 1) - 1) d .since in
-      (V net c i (t + 1) ≤ U net c i z) × ((s : ℕ) → s < z → U net c i s < V net c i (t + 1)))
-  travel i t d h l q = let z = since i (t + 1) (V net c i (t + 1) - 1) d h (omega arith) (omega (arith, V-le-U i (t + 1) h (omega arith))) in
-      (omega (arith, z .reached), λ s w. omega (arith, z .before s w))

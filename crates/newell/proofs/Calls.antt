@@ -1,19 +1,18 @@
 -- The calls alone decide the answers and the curves.
 use Rattle.merge.specs.declared.question.Question.{Question}
 use Rattle.newell.specs.declared.records.StepRow.{StepRow}
-use mathlib.Core.Path.{_≡_, refl, sym, ap, ap₂, _∙_, subst, subst₂, fun-ext}
-use mathlib.Core.List.{List, [], _∷_, _++_, map}
+use mathlib.Core.Path.{_≡_, refl, sym, ap, ap₂, _∙_, subst}
+use mathlib.Core.List.{List, [], _∷_, map}
 use mathlib.Core.Logic.{_⊎_, inl, inr}
-use Prim.Native.Nat.{ℕ, suc, zero, _+_, _-_, _≤_, _<_}
+use Prim.Native.Nat.{ℕ, _+_, _≤_, _<_}
 use native.Mathlib.Omega.{arith}
-use native.Mathlib.Numerals.{add-one}
-use lib.ListN.{length, getD}
+use lib.ListN.{getD}
 use Rattle.std.proofs.shelf.Lists.{same-lists}
 use Rattle.std.proofs.shelf.Tests.{cases-lt, cases-eq}
-use Rattle.network.specs.Net.{Net, Sound, Entrance, Exit, entering, leaving}
+use Rattle.network.specs.Net.{Net, Sound, entering, leaving}
 use Rattle.merge.specs.Rules.{Meaning}
-use Rattle.newell.specs.Plain.{Curves, Law, question}
-use Rattle.newell.specs.History.{Call, to-book, to-step, to-ask-link, to-ask-entrance, to-ask-exit, call, History, Event, book, step, ask-link, ask-entrance, ask-exit, Reply, told, refused, clock, booked, Checked, Filled, Asked, Answers, Follows}
+use Rattle.newell.specs.Plain.{Curves, Law}
+use Rattle.newell.specs.History.{to-book, to-step, to-ask-link, to-ask-entrance, to-ask-exit, call, History, Event, book, step, ask-link, ask-entrance, ask-exit, Reply, told, refused, clock, booked, Checked, Filled, Asked, Answers, Follows}
 use Rattle.newell.specs.Promise.{Agree, One-plain-run}
 use Rattle.newell.proofs.Single.{same-history, V-next, came-next}
 use Rattle.newell.proofs.Extend.{answers-same}

@@ -2,27 +2,27 @@
 use Rattle.newell.specs.declared.records.Vehicle.{Vehicle}
 use Rattle.merge.specs.declared.question.Question.{Question}
 use Rattle.newell.specs.declared.records.StepRow.{StepRow}
-use mathlib.Core.Path.{_≡_, refl, sym, ap, ap₂, _∙_, subst, subst₂, fun-ext}
+use mathlib.Core.Path.{_≡_, refl, sym, ap, ap₂, _∙_, subst, subst₂}
 use mathlib.Core.List.{List, [], _∷_, _++_, map}
-use mathlib.Core.Bool.{Bool, true, false, cond}
 use Rattle.std.specs.declared.option.Option.{Option}
 use Rattle.std.specs.declared.option.Option.the-variants.{Some, None}
 use mathlib.Core.Logic.{_⊎_, inl, inr, ∥∥₁-elim, ∥∥₁-prop}
 use native.Mathlib.Bridge.{le-prop}
-use Prim.Native.Nat.{ℕ, suc, zero, _+_, _-_, _*_, _≤_, _<_, min}
+use Prim.Native.Nat.{ℕ, suc, zero, _+_, _-_, _≤_, _<_}
 use native.Mathlib.Omega.{arith}
 use native.Mathlib.Numerals.{add-one}
-use lib.ListN.{length, getD, take, drop, replicate, length-append, length-map}
+use lib.ListN.{length, take, drop, replicate, length-append, length-map}
 use borrow.Author.Tests.{eq-eqb, ne-eqb, le-leb}
 use Rattle.std.proofs.shelf.Tests.{cases-eq}
-use Rattle.std.specs.shelf.Lists.{joined, All}
+use Rattle.std.specs.shelf.Lists.{All}
 use Rattle.std.proofs.shelf.Lists.{drop-drop, drop-append-le, append-nil}
-use Rattle.network.specs.Net.{Net, Sound, Entrance, Exit, Served, entering, leaving}
+use Rattle.network.specs.Net.{Net, Sound, Entrance, Served, entering, leaving}
 use Rattle.merge.specs.Rules.{Meaning, Lawful}
-use Rattle.newell.specs.Plain.{Curves, U, V, S, R, on, leavers, towards, waiting, arrivals, question, Law, Passable, Greatest}
-use Rattle.newell.specs.History.{History, Event, book, step, ask-link, ask-entrance, ask-exit, told, refused, clock, booked, handed, final, travelled, travel, lastTravel, rowOf, stateOf, Filled, Asked, Answers, Follows}
-use Rattle.newell.specs.Now.{LinkNow, RunNow, Shows, sends, takes, leave, arrive, asks, Fit, Passes, Moved, RowsNow, AskedNow, lasted, Queued, Opened, Moment, Carries, Reached, Step-carries, Booking-carries, Opening-starts, Idle, Idle-carries, stateNow, Link-tells}
+use Rattle.newell.specs.Plain.{Curves, U, V, S, R, on, leavers, towards, waiting, arrivals, question, Law, Passable}
+use Rattle.newell.specs.History.{History, Event, book, step, ask-link, ask-entrance, ask-exit, told, refused, clock, booked, handed, final, travelled, travel, lastTravel, rowOf, stateOf, Filled, Asked, Follows}
+use Rattle.newell.specs.Now.{LinkNow, RunNow, Shows, sends, takes, leave, arrive, asks, Fit, Passes, Moved, RowsNow, AskedNow, lasted, Carries, Reached, Step-carries, Booking-carries, Opening-starts, Idle, Idle-carries, stateNow, Link-tells}
 use Rattle.newell.specs.Promise.{Agree}
+use Rattle.network.proofs.Sorts.{in₁, in₂, off₁, off₂}
 use Rattle.network.proofs.Places.{In, entered, leftFrom, leaves, only}
 use Rattle.newell.proofs.Bounds.{U-mono, V-le-U}
 use Rattle.newell.proofs.Bounds as bounds
@@ -87,18 +87,6 @@ module _ (net : Net) (sound : Sound net) (h : History) (c : Curves) (f : Follows
       (ap₂ (λ n (w : List ℕ). take n w) (R-now j k) (wait-now j k))
       (joined-ext _ _ (entering net (net .link j .from)) (λ i q. ap (λ vs. map {B = ℕ} (λ v. v .exit) (towards net i j vs)) (leave-now i (entered net _ i q .0))))
 
-  in₁ : (n i : ℕ) (is : List ℕ) → entering net n ≡ i ∷ is → i < net .links
-  in₁ n i is e = entered net n i (subst (In i) (sym e) (inl refl)) .0
-
-  in₂ : (n i i′ : ℕ) (is : List ℕ) → entering net n ≡ i ∷ i′ ∷ is → i′ < net .links
-  in₂ n i i′ is e = entered net n i′ (subst (In i′) (sym e) (inr (inl refl))) .0
-
-  off₁ : (n j : ℕ) (js : List ℕ) → leaving net n ≡ j ∷ js → j < net .links
-  off₁ n j js e = leftFrom net n j (subst (In j) (sym e) (inl refl)) .0
-
-  off₂ : (n j j′ : ℕ) (js : List ℕ) → leaving net n ≡ j ∷ j′ ∷ js → j′ < net .links
-  off₂ n j j′ js e = leftFrom net n j′ (subst (In j′) (sym e) (inr (inl refl))) .0
-
   question-now : (i i′ j : ℕ) → i < net .links → i′ < net .links → j < net .links → question net d i i′ j (clock h) ≡ asks net r i i′ j
   question-now i i′ j k k′ l = λ z. record { clock = sym (shows .time) z; s1 = S-now i k z; s2 = S-now i′ k′ z; r = R-now j l z; q1 = net .link i .capacity; q2 = net .link i′ .capacity }
 
@@ -124,13 +112,13 @@ module _ (net : Net) (sound : Sound net) (h : History) (c : Curves) (f : Follows
   law : Law net d (booked h (clock h)) m (clock h)
   law = record {
     arrive = λ j k. came-next j k ∙ ap (λ xs. d .came j (clock h) ++ map (λ x. record { exit = x; since = clock h + 1 }) xs) (sym (arrive-now j k));
-    exit = λ n i e l. let k = in₁ n i [] e in omega (arith, passes n .exit i e l, V-next i, V-now i k, S-now i k);
-    mainline = λ n i j e l. let k = in₁ n i [] e in omega (arith, passes n .mainline i j e l, V-next i, V-now i k, S-now i k, R-now j (off₁ n j [] l));
-    merge = λ n i i′ j e l. let k = in₁ n i (i′ ∷ []) e in let k′ = in₂ n i i′ [] e in let q = sym (question-now i i′ j k k′ (off₁ n j [] l)) in (
+    exit = λ n i e l. let k = in₁ net n i [] e .0 in omega (arith, passes n .exit i e l, V-next i, V-now i k, S-now i k);
+    mainline = λ n i j e l. let k = in₁ net n i [] e .0 in omega (arith, passes n .mainline i j e l, V-next i, V-now i k, S-now i k, R-now j (off₁ net n j [] l .0));
+    merge = λ n i i′ j e l. let k = in₁ net n i (i′ ∷ []) e .0 in let k′ = in₂ net n i i′ [] e .0 in let q = sym (question-now i i′ j k k′ (off₁ net n j [] l .0)) in (
       V-next i ∙ ap₂ _+_ (sym (V-now i k)) (passes n .merge i i′ j e l .0 ∙ ap (λ q. m .splits n [] q .0) q),
       V-next i′ ∙ ap₂ _+_ (sym (V-now i′ k′)) (passes n .merge i i′ j e l .1 ∙ ap (λ q. m .splits n [] q .1) q),
     );
-    diverge = λ n i j j′ e l. let k = in₁ n i [] e in let x = passes n .diverge i j j′ e l in let a = off₁ n j (j′ ∷ []) l in let b = off₂ n j j′ [] l in (
+    diverge = λ n i j j′ e l. let k = in₁ net n i [] e .0 in let x = passes n .diverge i j j′ e l in let a = off₁ net n j (j′ ∷ []) l .0 in let b = off₂ net n j j′ [] l .0 in (
       out i,
       omega (arith, V-next i, V-now i k),
       record {
@@ -168,7 +156,7 @@ module _ (net : Net) (sound : Sound net) (h : History) (c : Curves) (f : Follows
   asked m′ p = record {
     limits = p .limits;
     merge = λ n i i′ j e l qs q. p .merge n i i′ j e l qs q
-        ∙ ap (λ (z : Question). m .splits n (z ∷ qs) q) (sym (question-now i i′ j (in₁ n i (i′ ∷ []) e) (in₂ n i i′ [] e) (off₁ n j [] l)));
+        ∙ ap (λ (z : Question). m .splits n (z ∷ qs) q) (sym (question-now i i′ j (in₁ net n i (i′ ∷ []) e .0) (in₂ net n i i′ [] e .0) (off₁ net n j [] l .0)));
     other = p .other;
   }
 

@@ -1,29 +1,26 @@
 -- All that are in a run are gone after enough steps.
 use Rattle.newell.specs.declared.records.Vehicle.{Vehicle}
-use mathlib.Core.Path.{_≡_, refl, sym, ap, ap₂, _∙_, subst, fun-ext}
-use mathlib.Core.List.{List, [], _∷_, _++_, map}
-use mathlib.Core.Bool.{Bool, true, false, cond}
-use Rattle.std.specs.declared.option.Option.{Option}
-use Rattle.std.specs.declared.option.Option.the-variants.{Some, None}
+use mathlib.Core.Path.{_≡_, refl, sym, ap, _∙_, subst, fun-ext}
+use mathlib.Core.List.{List, [], _∷_, map}
 use mathlib.Core.Logic.{_⊎_, inl, inr}
-use Prim.Native.Nat.{ℕ, suc, zero, _+_, _-_, _*_, _≤_, _<_, min}
+use Prim.Native.Nat.{ℕ, suc, zero, _+_, _-_, _*_, _≤_, _<_}
 use native.Mathlib.Omega.{arith}
-use native.Mathlib.Nat.{add-zero, add-suc, le-trans}
+use native.Mathlib.Nat.{add-zero, add-suc}
 use native.Mathlib.Numerals.{add-one}
-use lib.ListN.{length, getD, take, drop, length-append, length-take, length-drop, length-map}
-use Rattle.std.specs.shelf.Lists.{sumBy, kept-by, joined, All}
+use lib.ListN.{length, take, drop, length-append, length-take, length-drop}
+use Rattle.std.specs.shelf.Lists.{sumBy, joined, All}
 use Rattle.std.proofs.shelf.Sums.{sumBy-cons, sumBy-le}
 use Rattle.std.proofs.shelf.Elements.{all-drop, all-weaker}
 use Rattle.std.proofs.shelf.Tests.{cases-lt}
-use Rattle.network.specs.Net.{Net, Sound, Walk, there, along, next, entering, leaving, Served, LongestSteps}
-use Rattle.merge.specs.Rules.{Meaning, Lawful}
-use Rattle.newell.specs.Plain.{Curves, U, V, S, R, on, leavers, towards, waiting, arrivals, Law}
+use Rattle.network.specs.Net.{Net, Sound, Walk, there, along, next, entering, Served, LongestSteps}
+use Rattle.merge.specs.Rules.{Meaning}
+use Rattle.newell.specs.Plain.{Curves, U, V, R, on, leavers, towards, waiting}
 use Rattle.newell.proofs.Timeline.{Timeline}
 use Rattle.newell.specs.Promise.{Opens}
 use Rattle.newell.specs.Promise.{Empty, inRun}
 use Rattle.network.proofs.Places.{In, entered}
-use Rattle.newell.proofs.Bounds.{came-on, out, V-le-U, U-mono}
-use Rattle.newell.proofs.Totals.{total, total-le, total-none, total-at, total-add}
+use Rattle.newell.proofs.Bounds.{came-on, out, U-mono}
+use Rattle.newell.proofs.Totals.{total, total-le, total-none, total-at}
 use Rattle.newell.proofs.Weights.{onto, Bound, ends-walk, wait-bound, came-bound, waits, drives, admitted, released, step-law}
 use Rattle.newell.proofs.Still.{no-vehicle, no-wait}
 
@@ -130,7 +127,7 @@ module _ (net : Net) (sound : Sound net) (c : Curves) (T : ℕ) (booked : ℕ �
     W-least : 1 ≤ W
     W-least = let i = longest .met .0 in omega (arith, longest .free i (longest .met .1), sound .link i (longest .met .1) .free-least)
 
-    -- in W + Z - 1 steps running Some vehicle moves, if there is one
+    -- in W + Z - 1 steps running some vehicle moves, if there is one
     block : (t : ℕ) → from ≤ t → t + (W + Z - 1) ≤ T → (left (t + (W + Z - 1)) < left t) ⊎ (left t ≡ 0)
     unfolding left waits drives
     block t a l = go (cases-lt (left (t + (W + Z - 1))) (left t))

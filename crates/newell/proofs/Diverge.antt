@@ -1,19 +1,18 @@
 -- A count that stops at the first vehicle that finds its link full gives the greatest.
 use Rattle.newell.specs.declared.records.Vehicle.{Vehicle}
-use mathlib.Core.Path.{_≡_, refl, sym, ap, _∙_, subst}
-use mathlib.Core.List.{List, [], _∷_}
+use mathlib.Core.Path.{_≡_, sym, subst}
+use mathlib.Core.List.{List}
 use mathlib.Core.Logic.{_⊎_, inl, inr}
-use Prim.Native.Nat.{ℕ, suc, _+_, _≤_, _<_}
+use Prim.Native.Nat.{ℕ, _+_, _≤_, _<_}
 use native.Mathlib.Omega.{arith}
 use native.Mathlib.Nat.{le-trans}
 use lib.ListN.{length, take}
-use Rattle.std.specs.shelf.Lists.{kept-by}
 use Rattle.std.proofs.shelf.Sums.{length-kept-by, sumBy-take-le}
 use Rattle.std.proofs.shelf.Lists.{take-take}
 use Rattle.std.proofs.shelf.Tests.{cases-lt}
 use Rattle.network.specs.Net.{Net}
 use Rattle.newell.specs.Plain.{towards, Greatest}
-use Rattle.newell.specs.Now.{RunNow, sends, takes, Fit}
+use Rattle.newell.specs.Now.{RunNow, sends, Fit}
 
 fewer : (net : Net) (i j k m : ℕ) (vs : List Vehicle) → k ≤ m → length (towards net i j (take k vs)) ≤ length (towards net i j (take m vs))
 fewer net i j k m vs l = subst (λ (ws : List Vehicle). length (towards net i j ws) ≤ length (towards net i j (take m vs))) (take-take k m vs l)

@@ -1,26 +1,23 @@
 -- The plain run reads its curves at the clocks so far only; so it can be taken on by a step.
-use Rattle.newell.specs.declared.records.LinkState.{LinkState}
 use Rattle.newell.specs.declared.records.Vehicle.{Vehicle}
 use Rattle.merge.specs.declared.question.Question.{Question}
 use Rattle.newell.specs.declared.records.StepRow.{StepRow}
-use mathlib.Core.Path.{_≡_, refl, sym, ap, ap₂, _∙_, subst, subst₂, fun-ext}
+use mathlib.Core.Path.{_≡_, refl, sym, ap, ap₂, _∙_, subst}
 use mathlib.Core.List.{List, [], _∷_, _++_, map}
-use mathlib.Core.Bool.{Bool, true, false, cond}
-use Rattle.std.specs.declared.option.Option.{Option}
-use Rattle.std.specs.declared.option.Option.the-variants.{Some, None}
+use mathlib.Core.Bool.{cond}
 use mathlib.Core.Logic.{_⊎_, inl, inr}
-use Prim.Native.Nat.{ℕ, suc, zero, _+_, _-_, _*_, _≤_, _<_, min}
+use Prim.Native.Nat.{ℕ, suc, zero, _+_, _-_, _≤_, _<_}
 use native.Mathlib.Omega.{arith}
-use native.Mathlib.Numerals.{add-one}
-use lib.Dec.{eqb, leb}
-use lib.ListN.{length, getD, take, drop}
+use lib.Dec.{leb}
+use lib.ListN.{length, drop}
 use borrow.Author.Tests.{le-leb, lt-leb}
-use Rattle.network.specs.Net.{Net, Sound, Entrance, Exit, entering, leaving}
-use Rattle.merge.specs.Rules.{Meaning, Lawful}
-use Rattle.newell.specs.Plain.{Curves, U, V, S, R, on, leavers, towards, waiting, arrivals, question, Law, Passable, Greatest}
-use Rattle.newell.specs.History.{History, Event, book, step, ask-link, ask-entrance, ask-exit, Reply, told, refused, clock, booked, Checked, final, travelled, travel, lastTravel, rowOf, stateOf, Filled, Asked, Answers, New, Follows}
+use Rattle.network.specs.Net.{Net, Sound, Entrance}
+use Rattle.merge.specs.Rules.{Meaning}
+use Rattle.newell.specs.Plain.{Curves, V, on, waiting, Law}
+use Rattle.newell.specs.History.{History, Event, book, step, ask-link, ask-entrance, ask-exit, told, refused, clock, booked, final, travelled, travel, lastTravel, rowOf, stateOf, Filled, Asked, Answers, Follows}
 use Rattle.newell.specs.Promise.{Agree}
-use Rattle.network.proofs.Places.{In, entered, leftFrom}
+use Rattle.network.proofs.Sorts.{in₁, in₂, off₁, off₂}
+use Rattle.network.proofs.Places.{In, leftFrom}
 use Rattle.newell.proofs.Single.{passable, V-same, U-same, S-same, R-same, on-same, question-same, leavers-same, arrivals-same}
 
 less : (net : Net) (c d : Curves) (s t : ℕ) → s ≤ t → Agree net c d t → Agree net c d s
@@ -33,31 +30,19 @@ module _ (net : Net) (sound : Sound net) (c d : Curves) (t : ℕ) (agree : Agree
   V-next : (i : ℕ) → i < net .links → V net c i (t + 1) ≡ V net d i (t + 1)
   V-next i k = agree (t + 1) i (omega arith) k .1
 
-  in₁ : (n i : ℕ) (is : List ℕ) → entering net n ≡ i ∷ is → i < net .links
-  in₁ n i is e = entered net n i (subst (In i) (sym e) (inl refl)) .0
-
-  in₂ : (n i i′ : ℕ) (is : List ℕ) → entering net n ≡ i ∷ i′ ∷ is → i′ < net .links
-  in₂ n i i′ is e = entered net n i′ (subst (In i′) (sym e) (inr (inl refl))) .0
-
-  off₁ : (n j : ℕ) (js : List ℕ) → leaving net n ≡ j ∷ js → j < net .links
-  off₁ n j js e = leftFrom net n j (subst (In j) (sym e) (inl refl)) .0
-
-  off₂ : (n j j′ : ℕ) (js : List ℕ) → leaving net n ≡ j ∷ j′ ∷ js → j′ < net .links
-  off₂ n j j′ js e = leftFrom net n j′ (subst (In j′) (sym e) (inr (inl refl))) .0
-
   law-same : (b : ℕ → List ℕ) (m : Meaning) → Law net c b m t → Law net d b m t
   law-same b m law = record {
     arrive = λ j k. sym (agree (t + 1) j (omega arith) k .0) ∙ law .arrive j k
         ∙ ap₂ (λ (vs : List Vehicle) (xs : List ℕ). vs ++ map (λ x. record { exit = x; since = t + 1 }) xs) (a t j (omega arith) k .0)
         (arrivals-same net sound c d t a (b (net .link j .from)) j k V-next);
-    exit = λ n i e l. let k = in₁ n i [] e in omega (arith, law .exit n i e l, V-next i k, V-same net sound c d t a i t k (omega arith), S-same net sound c d t a i k);
-    mainline = λ n i j e l. let k = in₁ n i [] e in omega (arith, law .mainline n i j e l, V-next i k, V-same net sound c d t a i t k (omega arith), S-same net sound c d t a i k, R-same net sound c d t a j (off₁ n j [] l));
-    merge = λ n i i′ j e l. let k = in₁ n i (i′ ∷ []) e in let k′ = in₂ n i i′ [] e in let q = question-same net sound c d t a i i′ j k k′ (off₁ n j [] l) in (
+    exit = λ n i e l. let k = in₁ net n i [] e .0 in omega (arith, law .exit n i e l, V-next i k, V-same net sound c d t a i t k (omega arith), S-same net sound c d t a i k);
+    mainline = λ n i j e l. let k = in₁ net n i [] e .0 in omega (arith, law .mainline n i j e l, V-next i k, V-same net sound c d t a i t k (omega arith), S-same net sound c d t a i k, R-same net sound c d t a j (off₁ net n j [] l .0));
+    merge = λ n i i′ j e l. let k = in₁ net n i (i′ ∷ []) e .0 in let k′ = in₂ net n i i′ [] e .0 in let q = question-same net sound c d t a i i′ j k k′ (off₁ net n j [] l .0) in (
       sym (V-next i k) ∙ law .merge n i i′ j e l .0 ∙ ap₂ (λ v q. v + m .splits n [] q .0) (V-same net sound c d t a i t k (omega arith)) q,
       sym (V-next i′ k′) ∙ law .merge n i i′ j e l .1 ∙ ap₂ (λ v q. v + m .splits n [] q .1) (V-same net sound c d t a i′ t k′ (omega arith)) q,
     );
-    diverge = λ n i j j′ e l. let k = in₁ n i [] e in let x = law .diverge n i j j′ e l in
-        let r = R-same net sound c d t a j (off₁ n j (j′ ∷ []) l) in let r′ = R-same net sound c d t a j′ (off₂ n j j′ [] l) in let s = S-same net sound c d t a i k in let o = on-same net sound c d t a i k in (
+    diverge = λ n i j j′ e l. let k = in₁ net n i [] e .0 in let x = law .diverge n i j j′ e l in
+        let r = R-same net sound c d t a j (off₁ net n j (j′ ∷ []) l .0) in let r′ = R-same net sound c d t a j′ (off₂ net n j j′ [] l .0) in let s = S-same net sound c d t a i k in let o = on-same net sound c d t a i k in (
           x .0,
           omega (arith, x .1, V-next i k, V-same net sound c d t a i t k (omega arith)),
           record {
@@ -84,7 +69,7 @@ module _ (net : Net) (sound : Sound net) (c d : Curves) (t : ℕ) (agree : Agree
   asked-same m m′ f = record {
     limits = f .limits;
     merge = λ n i i′ j e l qs q. f .merge n i i′ j e l qs q
-        ∙ ap (λ (p : Question). m .splits n (p ∷ qs) q) (question-same net sound c d t a i i′ j (in₁ n i (i′ ∷ []) e) (in₂ n i i′ [] e) (off₁ n j [] l));
+        ∙ ap (λ (p : Question). m .splits n (p ∷ qs) q) (question-same net sound c d t a i i′ j (in₁ net n i (i′ ∷ []) e .0) (in₂ net n i i′ [] e .0) (off₁ net n j [] l .0));
     other = f .other;
   }
 

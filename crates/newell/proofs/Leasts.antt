@@ -1,27 +1,24 @@
 -- Newell's counts.
 use Rattle.newell.specs.declared.records.Vehicle.{Vehicle}
-use mathlib.Core.Path.{_≡_, refl, sym, ap, ap₂, _∙_, subst}
-use mathlib.Core.List.{List, [], _∷_, _++_}
-use mathlib.Core.Bool.{Bool, true, false, cond}
+use mathlib.Core.Path.{_≡_, refl, sym, ap, _∙_, subst}
+use mathlib.Core.List.{List, [], _∷_}
+use mathlib.Core.Bool.{Bool, cond}
 use mathlib.Core.Logic.{_⊎_, inl, inr}
-use Rattle.std.specs.declared.option.Option.{Option}
-use Rattle.std.specs.declared.option.Option.the-variants.{Some, None}
+use Rattle.std.specs.declared.option.Option.the-variants.{Some}
 use Prim.Native.Nat.{ℕ, suc, zero, _+_, _-_, _≤_, _<_, min}
 use native.Mathlib.Omega.{arith}
 use native.Mathlib.Numerals.{add-one}
-use lib.Dec.{eqb}
-use lib.ListN.{length, take, length-append, length-map, length-take, length-drop}
+use lib.ListN.{length, length-append, length-map, length-take, length-drop}
 use borrow.Author.Tests.{eq-eqb, ne-eqb}
 use Rattle.std.specs.shelf.Lists.{All}
-use Rattle.network.specs.Net.{Net, Sound, Walk, there, along, Entrance, Exit, entering, leaving, next, is}
+use Rattle.network.specs.Net.{Net, Sound, Walk, there, along, Entrance, entering, leaving, next, is}
 use Rattle.network.proofs.Places.{In, pair}
 use Rattle.network.proofs.Sorts.{in₁, in₂, off₁, off₂, two-rise}
-use Rattle.newell.specs.Plain.{Curves, U, V, S, R, leavers, newcomers, exits, towards, waiting}
+use Rattle.newell.specs.Plain.{Curves, U, V, R, leavers, newcomers, exits, towards, waiting}
 use Rattle.newell.specs.History.{History, clock, booked, handed, Follows}
 use Rattle.newell.specs.Promise.{InOrder}
 use Rattle.newell.specs.Least.{Balanced, Least, Nodes-balanced, Least-of-three}
-use Rattle.newell.proofs.Bounds.{inn}
-use Rattle.newell.proofs.Weights.{Bound, all-part, came-bound, next-leaves, ends-walk}
+use Rattle.newell.proofs.Weights.{Bound, all-part, came-bound, next-leaves}
 use Rattle.newell.proofs.Safety.{sending, taking}
 use Rattle.newell.proofs.Account.{within}
 use Rattle.newell.proofs.Moments.{served-bound}

@@ -11,9 +11,11 @@ pub mod Single
 pub mod Extend
 pub mod Calls
 pub mod Carried
-pub mod Corridor
+pub mod Worked
 pub mod Diverge
 pub mod Asking
 pub mod Safety
 pub mod Telling
 pub mod Leasts
+pub mod Numbering
+pub mod Existing

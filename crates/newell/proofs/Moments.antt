@@ -2,33 +2,26 @@
 use Rattle.newell.specs.declared.records.Vehicle.{Vehicle}
 use Rattle.newell.specs.declared.records.StepRow.{StepRow}
 use mathlib.Core.Path.{_≡_, refl, sym, ap, ap₂, _∙_, subst, fun-ext}
-use mathlib.Core.List.{List, [], _∷_, _++_, map}
+use mathlib.Core.List.{List, [], _∷_, _++_}
 use mathlib.Core.Bool.{Bool, true, false, cond, _&&_}
-use Rattle.std.specs.declared.option.Option.{Option}
 use Rattle.std.specs.declared.option.Option.the-variants.{Some, None}
-use mathlib.Core.Logic.{_⊎_, inl, inr}
-use Prim.Native.Nat.{ℕ, suc, zero, _+_, _-_, _*_, _≤_, _<_, min}
+use mathlib.Core.Logic.{inl}
+use Prim.Native.Nat.{ℕ, suc, zero, _+_, _-_, _*_, _≤_, _<_}
 use native.Mathlib.Omega.{arith}
-use native.Mathlib.Nat.{add-zero, zero-add, add-suc, suc-add, le-trans}
-use native.Mathlib.Numerals.{add-one}
 use lib.Dec.{eqb, leb}
-use lib.ListN.{length, getD, take, drop, replicate, length-append, length-take, length-drop}
-use lib.Seq.{take-add}
-use borrow.Author.Tests.{eqb-true, eq-eqb, ne-eqb, le-leb}
-use Rattle.std.specs.shelf.Lists.{All, sumBy}
+use lib.ListN.{length, getD, replicate}
+use borrow.Author.Tests.{eq-eqb, ne-eqb, le-leb}
+use Rattle.std.specs.shelf.Lists.{sumBy}
 use Rattle.std.proofs.shelf.Sums.{sumBy-cons, sumBy-append}
 use Rattle.std.proofs.shelf.Elements.{all-from-getD}
-use Rattle.std.proofs.shelf.Lists.{take-append-le, getD-take, getD-drop, getD-append-left}
-use Rattle.std.proofs.shelf.Tests.{cases-lt, cases-eq, cases-bool, cond-true, cond-false}
-use Rattle.network.specs.Net.{Net, Sound, Walk, there, along, leaving, next, Entrance, Exit, Served, MostLinks, LongestSteps}
-use Rattle.merge.specs.Rules.{Meaning}
-use Rattle.newell.specs.Plain.{Curves, U, V, on, waiting, leavers}
+use Rattle.std.proofs.shelf.Tests.{cond-true, cond-false}
+use Rattle.network.specs.Net.{Net, Sound, Walk, there, along, leaving, Entrance, Exit, Served}
+use Rattle.newell.specs.Plain.{Curves, U, V, leavers}
 use Rattle.newell.proofs.Timeline.{Timeline}
-use Rattle.newell.specs.Promise.{Opens}
-use Rattle.newell.specs.History.{History, Event, book, step, ask-link, ask-entrance, ask-exit, Reply, told, refused, clock, booked, bookedFor, goneBy, blank, handed, final, travelled, travel, Answers, Follows}
-use Rattle.newell.specs.Promise.{named, Empty, inRun, Unbooked, Conserved, Kept, Clears, Travels, Promise, At-each-moment}
+use Rattle.newell.specs.History.{History, book, step, ask-link, ask-entrance, ask-exit, told, refused, clock, booked, bookedFor, goneBy, blank, handed, final, travelled, travel, Follows}
+use Rattle.newell.specs.Promise.{named, inRun, Unbooked, Conserved, Kept, Clears, Travels, At-each-moment}
 use Rattle.network.proofs.Places.{In, only, leaves, leftFrom, entered}
-use Rattle.newell.proofs.Bounds.{out, V-le-U, U-mono, V-mono, storage, capacity-in, capacity-out, free-over, since, earlier}
+use Rattle.newell.proofs.Bounds.{V-le-U, V-mono, storage, capacity-in, capacity-out, free-over, since}
 use Rattle.newell.proofs.Totals.{total, total-two, total-none, total-one}
 use Rattle.newell.proofs.Weights.{next-leaves, waits, drives}
 use Rattle.newell.proofs.Order.{leaver-count, leaver-at, is-in-order}

@@ -2,15 +2,14 @@
 use Rattle.newell.specs.declared.records.Vehicle.{Vehicle}
 use mathlib.Core.Path.{_≡_, refl, sym, ap, ap₂, _∙_, subst}
 use mathlib.Core.List.{List, [], _∷_, _++_, map}
-use mathlib.Core.Bool.{Bool, true, false, cond}
+use mathlib.Core.Bool.{true, cond}
 use mathlib.Core.Logic.{_⊎_, inl, inr}
 use Prim.Native.Nat.{ℕ, suc, zero, _+_, _-_, _≤_, _<_}
 use native.Mathlib.Omega.{arith}
-use lib.ListN.{length, getD, take, drop, length-append, length-take, length-drop}
+use lib.ListN.{length, getD, take, drop, length-take, length-drop}
 use lib.Seq.{take-add}
 use borrow.Author.Tests.{eq-eqb}
 use Rattle.std.specs.shelf.Lists.{All, joined}
-use Rattle.std.proofs.shelf.Elements.{all-map}
 use Rattle.std.proofs.shelf.Lists.{append-nil, take-all, take-append-le, drop-at, getD-take, getD-drop, getD-append-left}
 use Rattle.std.proofs.shelf.Tests.{cases-lt}
 use Rattle.network.specs.Net.{Net, Sound, Entrance, entering, leaving, onward, next, is}
@@ -19,15 +18,12 @@ use Rattle.newell.specs.Plain.{Curves, U, V, R, on, leavers, newcomers, exits,
 use Rattle.newell.specs.History.{History, clock, booked, handed, Follows}
 use Rattle.newell.specs.Promise.{InOrder}
 use Rattle.newell.proofs.Bounds.{none-booked, came-on, out, V-le-U, U-mono, earlier}
+use Rattle.newell.proofs.Weights.{drop-nil}
 use Rattle.newell.proofs.Timeline.{Timeline, timeline}
 
 take-nil : {X : Type 0} (n : ℕ) → take {A = X} n [] ≡ []
 take-nil zero = refl
 take-nil (suc n) = refl
-
-drop-nil : {X : Type 0} (n : ℕ) → drop {A = X} n [] ≡ []
-drop-nil zero = refl
-drop-nil (suc n) = refl
 
 take-min : {X : Type 0} (r : ℕ) (xs : List X) → take (length (take r xs)) xs ≡ take r xs
 take-min r xs = go (cases-lt r (length xs))

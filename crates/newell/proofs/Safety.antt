@@ -1,30 +1,26 @@
 -- What code may count on at each moment.
-use Rattle.newell.specs.declared.records.Vehicle.{Vehicle}
-use mathlib.Core.Path.{_≡_, refl, sym, ap, ap₂, _∙_, subst}
-use mathlib.Core.List.{List, [], _∷_, _++_}
-use mathlib.Core.Bool.{true, false, cond, _&&_}
+use mathlib.Core.Path.{_≡_, refl, sym, ap, _∙_, subst}
+use mathlib.Core.List.{List, [], _∷_}
 use mathlib.Core.Logic.{_⊎_, inl, inr, ∥∥₁-elim}
 use Prim.Native.Nat.{ℕ, suc, zero, _+_, _-_, _*_, _≤_, _<_}
 use native.Mathlib.Omega.{arith}
 use native.Mathlib.Nat.{le-trans}
 use native.Mathlib.Bridge.{le-prop}
 use native.Mathlib.Numerals.{add-one}
-use lib.Dec.{leb, eqb}
-use lib.ListN.{length, getD, drop, replicate, length-append, length-drop, length-replicate}
+use lib.ListN.{length, length-append, length-drop, length-replicate}
 use borrow.Author.Tests.{eq-eqb, ne-eqb, le-leb}
 use Rattle.std.specs.shelf.Lists.{All}
 use Rattle.std.proofs.shelf.Elements.{all-from-getD, all-drop}
 use Rattle.std.proofs.shelf.Lists.{append-nil}
 use Rattle.std.proofs.shelf.Tests.{cases-eq}
-use Rattle.network.specs.Net.{Net, Sound, Entrance, entering}
+use Rattle.network.specs.Net.{Net, Sound, Entrance}
 use Rattle.merge.specs.Rules.{Meaning}
-use Rattle.newell.specs.Plain.{Curves, U, V, R, on, waiting}
+use Rattle.newell.specs.Plain.{Curves, U, V, waiting}
 use Rattle.newell.proofs.Timeline.{Timeline}
-use Rattle.newell.specs.History.{History, Event, book, step, ask-link, ask-entrance, ask-exit, told, refused, clock, booked, handed, Answers, Follows}
-use Rattle.newell.specs.Now.{RunNow, Shows, Moment, SafeLink, Safe, Reached-safe, Reached}
+use Rattle.newell.specs.History.{History, book, step, ask-link, ask-entrance, ask-exit, told, refused, clock, booked, handed, Follows}
+use Rattle.newell.specs.Now.{RunNow, Shows, SafeLink, Safe, Reached-safe, Reached}
 use Rattle.network.proofs.Places.{In, leftFrom}
-use Rattle.newell.proofs.Bounds.{inn, out, U-mono, V-mono, V-le-U, free-first, storage, capacity-in, since}
-use Rattle.newell.proofs.Account.{within}
+use Rattle.newell.proofs.Bounds.{inn, U-mono, V-mono, V-le-U, free-first, storage, capacity-in, since}
 use Rattle.newell.proofs.Timeline.{timeline, passed, booked-late, early}
 
 module _ (net : Net) (sound : Sound net) (c : Curves) (T : ℕ) (booked : ℕ → ℕ → List ℕ) (m : ℕ → Meaning) (lawful : Timeline net c T booked m) where
@@ -39,12 +35,12 @@ module _ (net : Net) (sound : Sound net) (c : Curves) (T : ℕ) (booked : ℕ �
       let q = inn net sound c T booked m lawful t i l k in
       let v = V-mono net sound c T booked m lawful i (t - (net .link i .wave - 1)) (t + 1 - (net .link i .wave - 1)) k (omega arith) (omega arith) in
       let x = subst (λ (s : ℕ). U net c i (t + 1) ≤ U net c i t + (V net c i s + net .link i .storage - U net c i t)) e (omega arith) in
-      rw (← add-one) (omega arith)
+      rw (← add-one t) (omega arith)
 
   small : (i t : ℕ) → i < net .links → t ≤ T → U net c i t ≤ 200 * t
   small i zero k l = omega (arith, ap length (lawful .new-came i k))
   small i (suc t) k l = let r = small i t k (omega arith) in let q = capacity-in net sound c T booked m lawful i t k l in
-      rw (← add-one) (omega (arith, sound .link i k .capacity-most))
+      rw (← add-one t) (omega (arith, sound .link i k .capacity-most))
 
   stamped : (i t : ℕ) → i < net .links → t ≤ T → All (λ v. v .since ≤ t) (c .came i t)
   stamped i t k l = all-from-getD _ (c .came i t) (record { exit = 0; since = 0 }) (λ q b. since net sound c T booked m lawful i t q (record { exit = 0; since = 0 }) k l b .now)

@@ -1,19 +1,16 @@
 -- Two plain runs for the same calls agree.
 use Rattle.newell.specs.declared.records.Vehicle.{Vehicle}
-use Rattle.merge.specs.declared.question.Question.{Question}
-use mathlib.Core.Path.{_≡_, refl, sym, ap, ap₂, _∙_, subst, subst₂, fun-ext}
+use mathlib.Core.Path.{_≡_, refl, sym, ap, ap₂, _∙_, subst, subst₂}
 use mathlib.Core.List.{List, [], _∷_, _++_, map}
 use mathlib.Core.Logic.{_⊎_, inl, inr}
-use Prim.Native.Nat.{ℕ, suc, zero, _+_, _-_, _*_, _≤_, _<_, min}
+use Prim.Native.Nat.{ℕ, suc, zero, _+_, _-_, _≤_, _<_}
 use native.Mathlib.Omega.{arith}
-use native.Mathlib.Nat.{le-antisymm}
-use native.Mathlib.Numerals.{add-one}
 use lib.ListN.{length, take, drop}
 use Rattle.std.specs.shelf.Lists.{joined}
 use Rattle.std.proofs.shelf.Tests.{cases-eq}
 use Rattle.network.specs.Net.{Net, Sound, entering, leaving}
 use Rattle.merge.specs.Rules.{Meaning}
-use Rattle.newell.specs.Plain.{Curves, U, V, S, R, on, leavers, towards, waiting, arrivals, question, Law, Passable, Greatest}
+use Rattle.newell.specs.Plain.{Curves, U, V, S, R, on, leavers, towards, arrivals, question, Law, Passable}
 use Rattle.newell.proofs.Timeline.{Timeline}
 use Rattle.newell.specs.History.{History, clock, booked, handed, Follows}
 use Rattle.newell.specs.Promise.{Agree}

@@ -1,25 +1,21 @@
 -- Where nothing moves for long enough, nothing is in the run.
 use Rattle.newell.specs.declared.records.Vehicle.{Vehicle}
-use mathlib.Core.Path.{_≡_, refl, sym, ap, ap₂, _∙_, subst}
-use mathlib.Core.List.{List, [], _∷_, _++_, map}
-use mathlib.Core.Bool.{Bool, true, false, cond}
-use Rattle.std.specs.declared.option.Option.{Option}
-use Rattle.std.specs.declared.option.Option.the-variants.{Some, None}
+use mathlib.Core.Path.{_≡_, refl, sym, subst}
+use mathlib.Core.List.{List, map}
 use mathlib.Core.Logic.{_⊎_, inl, inr}
-use Prim.Native.Nat.{ℕ, suc, zero, _+_, _-_, _≤_, _<_, min}
+use Prim.Native.Nat.{ℕ, suc, zero, _+_, _-_, _≤_, _<_}
 use native.Mathlib.Omega.{arith}
-use native.Mathlib.Nat.{add-zero, add-suc, le-trans}
-use native.Mathlib.Numerals.{add-one}
-use lib.ListN.{length, getD, take, drop, length-append, length-take, length-drop, length-map}
-use Rattle.std.specs.shelf.Lists.{kept-by, joined, All}
+use native.Mathlib.Nat.{le-trans}
+use lib.ListN.{length, take, length-append, length-take, length-drop}
+use Rattle.std.specs.shelf.Lists.{joined}
 use Rattle.std.proofs.shelf.Sums.{countBy-le-length, length-kept-by}
 use Rattle.std.proofs.shelf.Tests.{cases-lt}
 use Rattle.network.specs.Net.{Net, Sound, entering, leaving, LongestSteps}
-use Rattle.merge.specs.Rules.{Meaning, Lawful}
-use Rattle.newell.specs.Plain.{Curves, U, V, S, R, on, leavers, towards, waiting, arrivals, question, Law, Passable, Greatest}
+use Rattle.merge.specs.Rules.{Meaning}
+use Rattle.newell.specs.Plain.{Curves, U, V, S, R, on, leavers, towards, waiting, Passable}
 use Rattle.newell.proofs.Timeline.{Timeline}
 use Rattle.newell.specs.Promise.{Opens}
-use Rattle.network.proofs.Places.{In, only, entered, leftFrom, End, exits, passes, first-leg, second-leg, branches, end}
+use Rattle.network.proofs.Places.{In, entered, leftFrom, End, exits, passes, first-leg, second-leg, branches, end}
 use Rattle.newell.proofs.Bounds.{proper, came-on, V-le-U}
 
 few-kept : (net : Net) (i j : ℕ) (vs : List Vehicle) → length (towards net i j vs) ≤ length vs
@@ -29,7 +25,7 @@ module _ (net : Net) (sound : Sound net) (c : Curves) (T : ℕ) (booked : ℕ �
     (W Z t : ℕ) (longest : LongestSteps net W) (W-least : 1 ≤ W) (opens : Opens net m t T Z) (fits : t + (W + Z - 1) ≤ T)
     (still-U : (i s : ℕ) → i < net .links → t ≤ s → s ≤ t + (W + Z - 1) → U net c i s ≡ U net c i t)
     (still-V : (i s : ℕ) → i < net .links → t ≤ s → s ≤ t + (W + Z - 1) → V net c i s ≡ V net c i t) where
-  -- in a late step all on a link may leave it, and an empty link takes Some
+  -- in a late step all on a link may leave it, and an empty link takes some
   ready : (i s : ℕ) → i < net .links → t + W ≤ s + 1 → s < t + (W + Z - 1) → V net c i t < U net c i t → 1 ≤ S net c i s
   ready i s h a b q =
       let f = longest .free i h in

@@ -1,17 +1,18 @@
 -- Questions and refusals in what the run holds, and calls one after another.
 use mathlib.Core.Path.{_≡_, refl, sym, ap, _∙_, subst}
 use mathlib.Core.List.{List, [], _∷_, _++_}
-use mathlib.Core.Logic.{_⊎_, inl, inr}
-use Prim.Native.Nat.{ℕ, _+_, _-_, _≤_, _<_}
+use mathlib.Core.Logic.{_⊎_, inl, inr, ∥∥₁-elim, ∥∥₁-prop}
+use Prim.Native.Nat.{ℕ, _+_, _≤_, _<_}
 use native.Mathlib.Omega.{arith}
 use lib.ListN.{length}
+use Rattle.std.proofs.shelf.Lists.{append-nil}
 use Rattle.newell.specs.declared.records.StepRow.{StepRow}
-use Rattle.network.specs.Net.{Net, Sound, Entrance, Exit, Walk, Served}
+use Rattle.network.specs.Net.{Net, Sound, Entrance, Exit, Walk}
 use Rattle.network.proofs.Places.{In, entered, leftFrom, only}
 use Rattle.merge.specs.Rules.{Meaning}
 use Rattle.newell.specs.Plain.{V, waiting}
-use Rattle.newell.specs.History.{History, Event, book, step, ask-link, ask-entrance, ask-exit, told, refused, clock, booked}
-use Rattle.newell.specs.Now.{RunNow, Moment, Carries, Entrance-tells, Exit-tells, Ran, Ran-carries, Each-moment}
+use Rattle.newell.specs.History.{History, book, step, ask-link, ask-entrance, ask-exit, told, refused, clock, booked}
+use Rattle.newell.specs.Now.{RunNow, Opened, Moment, Carries, Reached, Entrance-tells, Exit-tells, Ran, Ran-carries, Each-moment}
 use Rattle.newell.proofs.Moments.{gone-left}
 use Rattle.newell.proofs.Carried.{idle-carries, opening-starts}
 
@@ -108,11 +109,14 @@ pub ran-cut : (net : Net) (r r″ : RunNow) (later h : History) → Ran net r (l
 ran-cut net r r″ [] h q = (r″, q, refl)
 ran-cut net r r″ (event ∷ later) h q = let s = ran-cut net r (q .0) later h (q .1) in (s .0, s .1, (q .0, s .2, q .2))
 
-append-nil : (h : History) → h ++ [] ≡ h
-append-nil [] = refl
-append-nil (event ∷ h) = ap (λ k. event ∷ k) (append-nil h)
-
 pub each-moment : Each-moment
-each-moment net sound r r″ o later h q =
-    let s = ran-cut net r r″ later h q in
-    (s .0, subst (λ k. Moment net k (s .0)) (append-nil h) (ran-carries net r (s .0) h [] (s .1) (opening-starts net sound r o)), s .2)
+each-moment net sound r r″ o h q later h₀ e =
+    let s = ran-cut net r r″ later h₀ (subst (λ h. Ran net r h r″) (sym e) q) in
+    (s .0, subst (λ k. Moment net k (s .0)) (append-nil h₀) (ran-carries net r (s .0) h₀ [] (s .1) (opening-starts net sound r o)), s .2)
+
+-- some calls led to a run just opened, and to one that calls were carried to
+pub reached-opened : (net : Net) → Sound net → (r : RunNow) → Opened net r → Reached net r
+reached-opened net sound r o = ∣ ([], opening-starts net sound r o) ∣₁
+
+pub reached-ran : (net : Net) (r r′ : RunNow) (h : History) → Ran net r h r′ → Reached net r → Reached net r′
+reached-ran net r r′ h q t = ∥∥₁-elim t ∥∥₁-prop (λ p. ∣ (h ++ p .0, ran-carries net r r′ h (p .0) q (p .1)) ∣₁)

@@ -1,24 +1,21 @@
 -- Curves that follow a history are a lawful timeline.
-use Rattle.newell.specs.declared.records.Vehicle.{Vehicle}
-use mathlib.Core.Path.{_≡_, refl, sym, ap, ap₂, _∙_, subst, fun-ext}
-use mathlib.Core.List.{List, [], _∷_, _++_, map}
+use mathlib.Core.Path.{_≡_, refl, sym, ap, _∙_, subst, fun-ext}
+use mathlib.Core.List.{List, [], _∷_, _++_}
 use mathlib.Core.Bool.{Bool, true, false, cond, _&&_}
-use Rattle.std.specs.declared.option.Option.{Option}
-use Rattle.std.specs.declared.option.Option.the-variants.{Some, None}
 use mathlib.Core.Logic.{_⊎_, inl, inr}
-use Prim.Native.Nat.{ℕ, suc, zero, _+_, _-_, _*_, _≤_, _<_, min}
+use Prim.Native.Nat.{ℕ, suc, zero, _+_, _≤_, _<_}
 use native.Mathlib.Omega.{arith}
 use lib.Dec.{eqb, leb}
-use lib.ListN.{length, getD, take, drop, replicate, length-append}
-use borrow.Author.Tests.{eqb-true, eq-eqb, ne-eqb, le-leb, lt-leb}
+use lib.ListN.{replicate}
+use borrow.Author.Tests.{eq-eqb, ne-eqb, le-leb, lt-leb}
 use Rattle.std.specs.shelf.Lists.{All}
 use Rattle.std.proofs.shelf.Elements.{all-append}
 use Rattle.std.proofs.shelf.Lists.{append-nil, append-assoc}
-use Rattle.std.proofs.shelf.Tests.{cases-lt, cases-eq, both-ways, cases-bool}
-use Rattle.network.specs.Net.{Net, Sound, Entrance, Exit, Served}
+use Rattle.std.proofs.shelf.Tests.{cases-lt, cases-eq}
+use Rattle.network.specs.Net.{Net, Served}
 use Rattle.merge.specs.Rules.{Meaning, Lawful}
-use Rattle.newell.specs.Plain.{Curves, U, V, waiting, Law}
-use Rattle.newell.specs.History.{History, Event, book, step, ask-link, ask-entrance, ask-exit, Reply, told, refused, clock, booked, handed, Checked, Answers, Follows, Filled, Asked, New}
+use Rattle.newell.specs.Plain.{Curves, Law}
+use Rattle.newell.specs.History.{History, book, step, ask-link, ask-entrance, ask-exit, told, refused, clock, booked, handed, Answers, Follows, Filled, Asked, New}
 
 -- The curves up to the clock T, those booked by each clock, and the rule handed in at each clock, with the laws they keep.
 pub record Timeline (net : Net) (c : Curves) (T : ℕ) (booked : ℕ → ℕ → List ℕ) (m : ℕ → Meaning) : Type 0 where

@@ -1,30 +1,29 @@
 -- Weights of the vehicles in a run, and how a step changes their sum.
 use Rattle.newell.specs.declared.records.Vehicle.{Vehicle}
-use mathlib.Core.Path.{_≡_, refl, sym, ap, ap₂, _∙_, subst}
+use mathlib.Core.Path.{_≡_, refl, sym, ap, _∙_, subst}
 use mathlib.Core.List.{List, [], _∷_, _++_, map}
 use mathlib.Core.Bool.{Bool, true, false, cond}
 use Rattle.std.specs.declared.option.Option.{Option}
 use Rattle.std.specs.declared.option.Option.the-variants.{Some, None}
 use mathlib.Core.Logic.{_⊎_, inl, inr}
-use Prim.Native.Nat.{ℕ, suc, zero, _+_, _-_, _≤_, _<_, min}
+use Prim.Native.Nat.{ℕ, suc, zero, _+_, _-_, _≤_, _<_}
 use native.Mathlib.Omega.{arith}
-use native.Mathlib.Nat.{add-zero, add-suc, le-trans}
 use native.Mathlib.Numerals.{add-one}
 use lib.Dec.{eqb}
-use lib.ListN.{length, getD, take, drop, length-append, length-take, length-drop, length-map}
+use lib.ListN.{length, take, drop, length-append, length-take}
 use borrow.Author.Tests.{eqb-true, eq-eqb, ne-eqb}
 use Rattle.std.specs.shelf.Lists.{sumBy, kept-by, joined, All}
-use Rattle.std.proofs.shelf.Sums.{sumBy-cons, sumBy-append, sumBy-take-drop}
-use Rattle.std.proofs.shelf.Elements.{all-map, all-getD, all-append, all-take, all-drop, all-weaker}
+use Rattle.std.proofs.shelf.Sums.{sumBy-append, sumBy-take-drop}
+use Rattle.std.proofs.shelf.Elements.{all-map, all-append, all-take, all-drop, all-weaker}
 use Rattle.std.proofs.shelf.Lists.{drop-drop, drop-append-le, drop-all}
-use Rattle.std.proofs.shelf.Tests.{cases-lt, cases-eq, both-ways}
-use Rattle.network.specs.Net.{Net, Sound, Walk, there, along, entering, leaving, onward, next, is, Served, Kind, entrance, exit, mainline, merge, diverge}
-use Rattle.merge.specs.Rules.{Meaning, Lawful}
-use Rattle.newell.specs.Plain.{Curves, U, V, S, R, on, leavers, towards, waiting, arrivals, question, Law}
+use Rattle.std.proofs.shelf.Tests.{cases-lt, both-ways}
+use Rattle.network.specs.Net.{Net, Sound, Walk, there, along, entering, leaving, onward, next, is, Served, exit}
+use Rattle.merge.specs.Rules.{Meaning}
+use Rattle.newell.specs.Plain.{Curves, U, V, R, on, leavers, towards, waiting, arrivals}
 use Rattle.newell.proofs.Timeline.{Timeline}
-use Rattle.network.proofs.Places.{In, only, enters, leaves, entered, leftFrom, Start, begins, follows, joins, first-branch, second-branch, start}
-use Rattle.newell.proofs.Bounds.{none-booked, came-on, out, inn, V-le-U, U-mono}
-use Rattle.newell.proofs.Totals.{total, total-ext, total-add, total-none, total-swap, total-one, sum-places, sum-map, sum-joined, sum-kept, sum-ext, sum-add, sum-two, sum-none, total-two, total-four, total-sum}
+use Rattle.network.proofs.Places.{In, only, leaves, entered, leftFrom, Start, begins, follows, joins, first-branch, second-branch, start}
+use Rattle.newell.proofs.Bounds.{none-booked, came-on, out, V-le-U, U-mono}
+use Rattle.newell.proofs.Totals.{total, total-ext, total-none, total-swap, total-one, sum-places, sum-map, sum-joined, sum-kept, sum-ext, sum-two, sum-none, total-two, total-four, total-sum}
 
 -- what a weight is worth on the link taken next
 abbrev pub onto : Option ℕ → (ℕ → ℕ) → ℕ
@@ -106,7 +105,7 @@ module _ (net : Net) (sound : Sound net) (c : Curves) (w : ℕ → ℕ → ℕ) 
       ∙ total-swap (net .links) (net .links) (λ j i. cond (eqb (net .link i .to) (net .link j .from)) (worth i j) 0)
       ∙ total-ext (net .links) _ _ (λ i h. each-once net sound w i (leavers net c i t))
 
-drop-nil : {X : Type 0} (n : ℕ) → drop {A = X} n [] ≡ []
+pub drop-nil : {X : Type 0} (n : ℕ) → drop {A = X} n [] ≡ []
 drop-nil zero = refl
 drop-nil (suc n) = refl
 

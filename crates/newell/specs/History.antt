@@ -5,10 +5,10 @@ use Rattle.merge.specs.declared.question.Question.{Question}
 use Rattle.newell.specs.declared.records.StepRow.{StepRow}
 use mathlib.Core.Path.{_≡_}
 use mathlib.Core.List.{List, [], _∷_, _++_}
-use mathlib.Core.Bool.{Bool, cond, _&&_}
+use mathlib.Core.Bool.{cond, _&&_}
 use Rattle.std.specs.declared.option.Option.{Option}
 use Rattle.std.specs.declared.option.Option.the-variants.{Some, None}
-use mathlib.Core.Logic.{_⊎_, inl, inr}
+use mathlib.Core.Logic.{_⊎_}
 use Prim.Native.Nat.{ℕ, suc, zero, _+_, _-_, _≤_, _<_}
 use lib.Dec.{eqb, leb}
 use lib.ListN.{length, getD, replicate}
@@ -16,6 +16,7 @@ use Rattle.network.specs.Net.{Net, Entrance, Exit, Served, entering, leaving}
 use Rattle.merge.specs.Rules.{Meaning, Lawful}
 use Rattle.newell.specs.Plain.{Curves, U, V, waiting, leavers, question, Law}
 
+-- what a call tells, or the number of its refusal
 pub data Reply (A : Type 0) : Type 0 where
   told : A → Reply A
   refused : ℕ → Reply A
@@ -115,7 +116,7 @@ final (x ∷ []) = Some x
 final (x ∷ y ∷ ys) = final (y ∷ ys)
 
 module _ (net : Net) (c : Curves) where
-  -- the travel time of the last vehicle to leave a link in the step from t; None if None left
+  -- the travel time of the last vehicle to leave a link in the step from t, absent if none left: t + 1 less the clock at which it came on
   abbrev pub travelled : ℕ → Option Vehicle → Option ℕ
   travelled t None = None
   travelled t (Some v) = Some (t + 1 - v .since)
@@ -128,13 +129,14 @@ module _ (net : Net) (c : Curves) where
   lastTravel i zero = None
   lastTravel i (suc t) = travel i t
 
+  -- the row of the link i for the step from t, and what a question about it tells at the clock t
   abbrev pub rowOf : ℕ → ℕ → StepRow
   rowOf i t = record { came = U net c i (t + 1) - U net c i t; left = V net c i (t + 1) - V net c i t; travel = travel i t }
 
   abbrev pub stateOf : ℕ → ℕ → LinkState
   stateOf i t = record { on = U net c i t; off = V net c i t; arrived = U net c i (t - net .link i .free); queue = U net c i (t - net .link i .free) - V net c i t; travel = lastTravel i t }
 
-  -- the rows that the step from t leaves
+  -- the rows that the step from t leaves: one filled for each link, and those beyond as they were
   pub record Filled (t : ℕ) (rows rows′ : List StepRow) : Type 0 where
     pub as-many : length rows′ ≡ length rows
     pub filled : (i : ℕ) (d : StepRow) → i < net .links → getD rows′ i d ≡ rowOf i t
@@ -148,7 +150,9 @@ module _ (net : Net) (c : Curves) where
     pub other : (n : ℕ) → ((i i′ j : ℕ) → entering net n ≡ i ∷ i′ ∷ [] → leaving net n ≡ j ∷ [] → ⊥)
         → (asked : List Question) (q : Question) → m′ .splits n asked q ≡ m .splits n asked q
 
-  -- The answer to each call, behind the history h, that the plain run with these curves gives.
+  -- The answer to each call, behind the history h, that the plain run with these curves gives. It refuses: 32 no such entrance, 33 no such exit, 34 pair
+  -- not served, 35 count not 1 to 200, 36 waiting and count over 500; 39 fewer rows than links, 37 clock is 1,000,000; 38 no such link. An accepted step
+  -- keeps the law under the rule that is handed in; a refused one leaves rule and rows as they were.
   abbrev pub Answers : History → Event → Type 0
   Answers h (book e x n r) = Checked
       ((32, ((j : ℕ) × Entrance net e j))
@@ -169,11 +173,12 @@ module _ (net : Net) (c : Curves) where
       (λ k. (j : ℕ) → Entrance net e j → k ≡ length (waiting net c (booked h (clock h) e) j (clock h))) r
   Answers h (ask-exit x r) = Checked ((33, ((i : ℕ) × Exit net x i)) ∷ []) (λ k. (i : ℕ) → Exit net x i → k ≡ goneBy h i) r
 
-  -- These curves are the plain run's, at the clocks up to now, for the calls so far.
+  -- new: nobody has come on a link
   pub record New : Type 0 where
     pub came : (i : ℕ) → i < net .links → c .came i 0 ≡ []
     pub left : (i : ℕ) → i < net .links → c .left i 0 ≡ 0
 
+  -- These curves are the plain run's, at the clocks up to now, for the calls so far.
   abbrev pub Follows : History → Type 0
   Follows [] = New
   Follows (event ∷ h) = Follows h × Answers h event

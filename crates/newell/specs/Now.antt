@@ -1,4 +1,5 @@
--- What a run holds at a moment, and how that shows the plain run; what a step makes of it.
+-- What a run holds at a moment, and how that shows the plain run; what each call makes of it, and so takes the plain run on.
+-- The code of a run shows the records here of its own fields; the statements here then give the promise.
 use Rattle.newell.specs.declared.records.LinkState.{LinkState}
 use Rattle.newell.specs.declared.records.Vehicle.{Vehicle}
 use Rattle.merge.specs.declared.question.Question.{Question}
@@ -7,7 +8,7 @@ use mathlib.Core.Path.{_≡_}
 use mathlib.Core.List.{List, [], _∷_, _++_, map}
 use Rattle.std.specs.declared.option.Option.{Option}
 use Rattle.std.specs.declared.option.Option.the-variants.{Some, None}
-use Prim.Native.Nat.{ℕ, suc, zero, _+_, _-_, _*_, _≤_, _<_, min}
+use Prim.Native.Nat.{ℕ, _+_, _-_, _*_, _≤_, _<_, min}
 use lib.ListN.{length, take, drop, getD, replicate}
 use Rattle.std.specs.shelf.Lists.{joined, All}
 use Rattle.network.specs.Net.{Net, Sound, Entrance, Exit, Served, entering, leaving}
@@ -49,6 +50,7 @@ module _ (net : Net) (r : RunNow) where
   abbrev pub asks : ℕ → ℕ → ℕ → Question
   asks i i′ j = record { clock = r .clock; s1 = sends i; s2 = sends i′; r = takes j; q1 = net .link i .capacity; q2 = net .link i′ .capacity }
 
+  -- of the first k vehicles on i, each leaving link gets no more than it may take
   pub record Fit (i j j′ k : ℕ) : Type 0 where
     pub sent : k ≤ sends i
     pub one : length (towards net i j (take k (r .link i .cars))) ≤ takes j
@@ -62,7 +64,7 @@ module _ (net : Net) (r : RunNow) where
         → (k i ≡ m .splits n [] (asks i i′ j) .0) × (k i′ ≡ m .splits n [] (asks i i′ j) .1)
     pub diverge : (i j j′ : ℕ) → entering net n ≡ i ∷ [] → leaving net n ≡ j ∷ j′ ∷ [] → Greatest (Fit i j j′) (k i)
 
--- if k i vehicles leave the link i
+-- if k i vehicles leave the link i: who leaves it, and the exits of those that come on a link
 module _ (net : Net) (r : RunNow) (k : ℕ → ℕ) where
   abbrev pub leave : ℕ → List Vehicle
   leave i = take (k i) (r .link i .cars)
@@ -74,6 +76,7 @@ module _ (net : Net) (r : RunNow) (k : ℕ → ℕ) where
   lasted None = None
   lasted (Some v) = Some (r .clock + 1 - v .since)
 
+  -- what the run holds after the step
   pub record Moved (r′ : RunNow) : Type 0 where
     pub clock : r′ .clock ≡ r .clock + 1
     pub ons : (i q : ℕ) → i < net .links → q < 63 → r′ .link i .ons (q + 1) ≡ r .link i .ons q
@@ -85,12 +88,13 @@ module _ (net : Net) (r : RunNow) (k : ℕ → ℕ) where
     pub travel : (i : ℕ) → i < net .links → r′ .link i .travel ≡ lasted (final (leave i))
     pub queue : (j : ℕ) → j < net .links → r′ .queue j ≡ drop (takes net r j) (r .queue j)
 
-  -- the rows and the rule's meaning that the step leaves
+  -- the rows that the step leaves
   pub record RowsNow (rows rows′ : List StepRow) : Type 0 where
     pub as-many : length rows′ ≡ length rows
     pub filled : (i : ℕ) (d : StepRow) → i < net .links → getD rows′ i d ≡ record { came = length (arrive i); left = k i; travel = lasted (final (leave i)) }
     pub beyond : (i : ℕ) (d : StepRow) → net .links ≤ i → getD rows′ i d ≡ getD rows i d
 
+-- and what the rule means behind its questions: one at each merge
 pub record AskedNow (net : Net) (r : RunNow) (m m′ : Meaning) : Type 0 where
   pub limits : (n t : ℕ) → m′ .limits n t ≡ m .limits n t
   pub merge : (n i i′ j : ℕ) → entering net n ≡ i ∷ i′ ∷ [] → leaving net n ≡ j ∷ []
@@ -98,7 +102,7 @@ pub record AskedNow (net : Net) (r : RunNow) (m m′ : Meaning) : Type 0 where
   pub other : (n : ℕ) → ((i i′ j : ℕ) → entering net n ≡ i ∷ i′ ∷ [] → leaving net n ≡ j ∷ [] → ⊥)
       → (asked : List Question) (q : Question) → m′ .splits n asked q ≡ m .splits n asked q
 
--- a booking, in what the run holds
+-- what the run holds after a booking of n vehicles for x at the entrance of the link j
 pub record Queued (net : Net) (r : RunNow) (j x n : ℕ) (r′ : RunNow) : Type 0 where
   pub clock : r′ .clock ≡ r .clock
   pub link : (i : ℕ) → i < net .links → r′ .link i ≡ r .link i
@@ -114,7 +118,7 @@ pub record Opened (net : Net) (r : RunNow) : Type 0 where
   pub travel : (i : ℕ) → i < net .links → r .link i .travel ≡ None
   pub queue : (j : ℕ) → j < net .links → r .queue j ≡ []
 
--- The run is equal to the plain run for the calls so far, and the promise holds.
+-- The run is equal to the plain run for the calls so far (there is one, and no other: `Plain-run-there`, `One-plain-run`), and the promise holds.
 pub record Moment (net : Net) (h : History) (r : RunNow) : Type 0 where
   pub sound : Sound net
   pub curves : Curves
@@ -126,16 +130,19 @@ pub record Moment (net : Net) (h : History) (r : RunNow) : Type 0 where
 abbrev pub Carries : Net → RunNow → Event → RunNow → Type 0
 Carries net r event r′ = (h : History) → Moment net h r → Moment net (event ∷ h) r′
 
+-- an accepted step
 abbrev pub Step-carries : Type 0
 Step-carries = (net : Net) (r r′ : RunNow) (m m′ : Meaning) (rows rows′ : List StepRow) (out : ℕ → ℕ)
     → ((n : ℕ) → Passes net r m out n) → Moved net r out r′ → RowsNow net r out rows rows′ → AskedNow net r m m′
     → net .links ≤ length rows → r .clock < 1000000 → Lawful m → Carries net r (step m rows (told tt) m′ rows′) r′
 
+-- an accepted booking
 abbrev pub Booking-carries : Type 0
 Booking-carries = (net : Net) (r r′ : RunNow) (e j x i k n : ℕ)
     → Entrance net e j → Exit net x i → Served net e x k → 1 ≤ n → n ≤ 200 → length (r .queue j) + n ≤ 500
     → Queued net r j x n r′ → Carries net r (book e x n (told tt)) r′
 
+-- opening
 abbrev pub Opening-starts : Type 0
 Opening-starts = (net : Net) → Sound net → (r : RunNow) → Opened net r → Moment net [] r
 
@@ -179,14 +186,16 @@ abbrev pub Ran : Net → RunNow → History → RunNow → Type 0
 Ran net r [] r′ = r ≡ r′
 Ran net r (event ∷ h) r″ = (r′ : RunNow) × Ran net r h r′ × Carries net r′ event r″
 
--- so the plain run goes on along with them all,
+-- so the plain run goes on along with them all
 abbrev pub Ran-carries : Type 0
 Ran-carries = (net : Net) (r r′ : RunNow) (later h : History) → Ran net r later r′ → Moment net h r → Moment net (later ++ h) r′
 
--- and from opening on the promise holds at each moment: ahead of the first call, between two, and behind the last
+-- The promise at each moment of the calls h, which led to r: ahead of the first call, between two, and behind the last.
+abbrev pub Throughout : Net → History → RunNow → Type 0
+Throughout net h r = (later h₀ : History) → later ++ h₀ ≡ h → (r₀ : RunNow) × Moment net h₀ r₀ × Ran net r₀ later r
+
 abbrev pub Each-moment : Type 0
-Each-moment = (net : Net) → Sound net → (r r″ : RunNow) → Opened net r → (later h : History) → Ran net r (later ++ h) r″
-    → (r′ : RunNow) × Moment net h r′ × Ran net r′ later r″
+Each-moment = (net : Net) → Sound net → (r r′ : RunNow) → Opened net r → (h : History) → Ran net r h r′ → Throughout net h r′
 
 -- what code may count on: no difference of a step falls below 0, no line is over its part, no number is large
 pub record SafeLink (net : Net) (r : RunNow) (i : ℕ) : Type 0 where

@@ -1,11 +1,10 @@
--- The plain run: curves for all clocks, and the laws that they keep.
-use Rattle.network.specs.declared.link.Link.{Link}
+-- The plain run: Newell's curves, kept for all clocks, and the law of a step.
+-- At and before clock 0 no vehicle has come on a link: subtraction stops at 0, so that U(t - k) is U(0) there.
 use Rattle.newell.specs.declared.records.Vehicle.{Vehicle}
 use Rattle.merge.specs.declared.question.Question.{Question}
 use mathlib.Core.Path.{_≡_}
 use mathlib.Core.List.{List, [], _∷_, _++_, map}
-use mathlib.Core.Bool.{Bool, cond}
-use Prim.Native.Nat.{ℕ, suc, zero, _+_, _-_, _≤_, _<_, min}
+use Prim.Native.Nat.{ℕ, _+_, _-_, _≤_, _<_, min}
 use lib.ListN.{length, take, drop}
 use Rattle.std.specs.shelf.Lists.{kept-by, joined}
 use Rattle.network.specs.Net.{Net, entering, leaving, next, is}
@@ -24,11 +23,13 @@ exits vs = map (λ v. v .exit) vs
 abbrev pub towards : Net → ℕ → ℕ → List Vehicle → List Vehicle
 towards net i j vs = kept-by (λ v. is (next net i (v .exit)) j) vs
 
+-- the greatest number of which P holds
 pub record Greatest (P : ℕ → Type 0) (k : ℕ) : Type 0 where
   pub holds : P k
   pub most : (m : ℕ) → P m → m ≤ k
 
 module _ (net : Net) (c : Curves) where
+  -- how many have come on a link by a clock, and how many have left it
   abbrev pub U : ℕ → ℕ → ℕ
   U i t = length (c .came i t)
 
@@ -39,7 +40,8 @@ module _ (net : Net) (c : Curves) where
   abbrev pub on : ℕ → ℕ → List Vehicle
   on i t = drop (V i t) (c .came i t)
 
-  -- what a link may send and may take in the step from t
+  -- What a link may send in the step from t: those past their free steps, at most its capacity. What it may take: the places that the wave has
+  -- brought back, at most its capacity.
   abbrev pub S : ℕ → ℕ → ℕ
   S i t = min (U i (t + 1 - net .link i .free) - V i t) (net .link i .capacity)
 
@@ -71,10 +73,13 @@ module _ (net : Net) (c : Curves) where
     pub one : length (towards net i j (take k (on i t))) ≤ R j t
     pub other : length (towards net i j′ (take k (on i t))) ≤ R j′ t
 
+  -- what a merge with the legs i and i′ asks its rule
   abbrev pub question : ℕ → ℕ → ℕ → ℕ → Question
   question i i′ j t = record { clock = t; s1 = S i t; s2 = S i′ t; r = R j t; q1 = net .link i .capacity; q2 = net .link i′ .capacity }
 
-  -- The law of the step from t, if `booked` tells for each node who was booked there so far and the rule handed in means m.
+  -- The law of the step from t, if `booked` tells for each node who was booked there so far and the rule handed in means m. Those that arrive come on
+  -- behind the others, with the clock t + 1. An exit passes S. A mainline node passes the least of S and R. A merge passes its rule's split. A diverge
+  -- passes the most that it may: counting stops at the first vehicle that finds its link full.
   pub record Law (booked : ℕ → List ℕ) (m : Meaning) (t : ℕ) : Type 0 where
     pub arrive : (j : ℕ) → j < net .links
         → c .came j (t + 1) ≡ c .came j t ++ map (λ x. record { exit = x; since = t + 1 }) (arrivals (booked (net .link j .from)) j t)

@@ -1,6 +1,5 @@
 -- What is promised of every run at each moment: vehicles are conserved, links keep their bounds, vehicles keep their order, travel times are
 -- those of the curves, and a run clears.
-use Rattle.newell.specs.declared.records.Vehicle.{Vehicle}
 use mathlib.Core.Path.{_≡_}
 use mathlib.Core.List.{List, [], _∷_, _++_, map}
 use mathlib.Core.Bool.{cond}
@@ -10,9 +9,9 @@ use lib.Dec.{eqb}
 use lib.ListN.{length, take}
 use Rattle.std.specs.shelf.Lists.{All, sumBy}
 use Rattle.network.specs.Net.{Net, Sound, Entrance, Exit, MostLinks, LongestSteps, entering, leaving}
-use Rattle.merge.specs.Rules.{Meaning}
+use Rattle.merge.specs.Rules.{Meaning, Lawful}
 use Rattle.newell.specs.Plain.{Curves, U, V, on, waiting, leavers, newcomers, exits, towards}
-use Rattle.newell.specs.History.{History, Event, book, step, ask-link, ask-entrance, ask-exit, told, refused, call, clock, booked, bookedFor, goneBy, handed, travel, Follows}
+use Rattle.newell.specs.History.{History, book, step, ask-link, ask-entrance, ask-exit, told, refused, Call, to-book, to-step, to-ask-link, to-ask-entrance, to-ask-exit, call, clock, booked, bookedFor, goneBy, handed, travel, Follows}
 
 -- a sum over the places below n
 abbrev pub total : ℕ → (ℕ → ℕ) → ℕ
@@ -129,7 +128,18 @@ Runs-clear = Always Clears
 abbrev pub At-each-moment : Type 0
 At-each-moment = Always Promise
 
--- two plain runs for the same calls agree
+-- For every list of calls that bring lawful rules there is a plain run,
+abbrev pub Lawfully : Call → Type 0
+Lawfully (to-book e x n) = Unit {0}
+Lawfully (to-step m rows) = Lawful m
+Lawfully (to-ask-link n) = Unit {0}
+Lawfully (to-ask-entrance e) = Unit {0}
+Lawfully (to-ask-exit x) = Unit {0}
+
+abbrev pub Plain-run-there : Type 0
+Plain-run-there = (net : Net) → Sound net → (calls : List Call) → All Lawfully calls → (h : History) × (c : Curves) × (map call h ≡ calls) × Follows net c h
+
+-- and it is one: two plain runs for the same calls agree.
 abbrev pub Agree : Net → Curves → Curves → ℕ → Type 0
 Agree net c d t = (s i : ℕ) → s ≤ t → i < net .links → (c .came i s ≡ d .came i s) × (c .left i s ≡ d .left i s)
 
