@@ -48,6 +48,17 @@ impl Table {
         }
     }
 
+    // How many are in it.
+    pub fn count(&self, side: Side, i: usize) -> usize
+        requires { ⌜ i < 48 ⌝ }
+        ensures { λ r. ⌜ r ≡ laneAt (now (self .entry)) (laneNo side i) .mark .len ⌝ }
+    {
+        match side {
+            Side::Road => self.links[i].road.mark.len,
+            Side::Queue => self.links[i].queue.mark.len,
+        }
+    }
+
     // The mark of a lane is replaced.
     pub fn mark(&mut self, side: Side, i: usize, mark: Mark)
         requires { ⌜ i < 48 ⌝ }

@@ -2,6 +2,7 @@
 pub mod change;
 pub mod curve;
 pub mod fresh;
+pub mod lane;
 pub mod records;
 pub mod yard;
 

@@ -12,9 +12,6 @@ ghost use Rattle.links.specs.Yards.{holds, spotsOf, sizeOf, gaugeOf, Laid, Put
 use crate::records::Change;
 use crate::records::Side;
 use crate::records::Yard;
-use line::look_in;
-use line::push_in;
-use line::take_in;
 use newell::Vehicle;
 
 impl<'a> Yard<'a> {
@@ -27,10 +24,9 @@ impl<'a> Yard<'a> {
         ensures spots { λ _. ⌜ spotsOf (now (self .exit)) (laneNo side i) ≡ spotsOf (now (self .entry)) (laneNo side i) ⌝ }
         ensures same { λ _. ⌜ name (now (self .exit) .area) ≡ name (now (self .entry) .area) ⌝ }
     {
-        let lane = self.table.lane(side, i);
-        let mut mark = lane.mark;
-        let v = take_in(self.area, lane.start, lane.size, &mut mark);
-        self.table.mark(side, i, mark);
+        let mut lane = self.table.lane(side, i);
+        let v = lane.take(self.area);
+        self.table.mark(side, i, lane.mark);
         v
     }
 
@@ -43,10 +39,9 @@ impl<'a> Yard<'a> {
         ensures spots { λ _. ⌜ spotsOf (now (self .exit)) (laneNo side i) ≡ wrote (spotsOf (now (self .entry)) (laneNo side i)) v ⌝ }
         ensures same { λ _. ⌜ name (now (self .exit) .area) ≡ name (now (self .entry) .area) ⌝ }
     {
-        let lane = self.table.lane(side, i);
-        let mut mark = lane.mark;
-        let _ = push_in(self.area, lane.start, lane.size, &mut mark, v);
-        self.table.mark(side, i, mark);
+        let mut lane = self.table.lane(side, i);
+        let _ = lane.push(self.area, v);
+        self.table.mark(side, i, lane.mark);
     }
 
     // How many are in a lane.
@@ -55,8 +50,7 @@ impl<'a> Yard<'a> {
         requires laid { ⌜ Laid (now self) ⌝ }
         ensures { λ r. ⌜ r ≡ length (holds (now (self .entry)) (laneNo side i)) ⌝ }
     {
-        let lane = self.table.lane(side, i);
-        lane.mark.len
+        self.table.count(side, i)
     }
 
     // The one at a place of a lane, counted from the first.
@@ -67,7 +61,7 @@ impl<'a> Yard<'a> {
         ensures { λ r. ⌜ r ≡ getD (holds (now (self .entry)) (laneNo side i)) q (record { exit = 0; since = 0 }) ⌝ }
     {
         let lane = self.table.lane(side, i);
-        look_in(self.area, lane.start, lane.size, lane.mark, q)
+        lane.look(self.area, q)
     }
 
     // How many had come on a link so many clocks ago.
