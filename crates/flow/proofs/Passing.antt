@@ -19,9 +19,13 @@ use Rattle.line.specs.Spots.{wrote, written}
 use Rattle.line.proofs.Writing.{written-append}
 use Rattle.links.specs.Yards.{holds, spotsOf, sizeOf, Laid, Put}
 use Rattle.links.proofs.Spacing.{beyond-none, beyond-more}
-use Rattle.flow.specs.Flows.{going, taking, stamped, nobody, leader, lasted, Gone, Sent}
+use Rattle.flow.specs.Flows.{going, taking, stamped, nobody, leader, lasted, Roomy, Came, Gone, Sent}
 use Rattle.flow.proofs.Fronts.{led}
 use Rattle.flow.proofs.Going.{stamped-append, stamped-none, stamped-one, stamped-length, going-nil, going-append, going-one, taking-some, taking-not, room-one}
+
+pub roomy-of : (y : Yard) (o : Option ℕ) → ((j : ℕ) → o ≡ Some j → (j < 48) × (length (holds y j) < sizeOf y j)) → Roomy o y
+roomy-of y None f = tt
+roomy-of y (Some j) f = f j refl
 
 module _ (net : Net) (t i : ℕ) where
   pub gone-none : (x : ℕ) (y : Yard) → None ≡ next net i x → Laid y → Gone net t i x y y
@@ -58,6 +62,10 @@ module _ (net : Net) (t i : ℕ) where
     laid = p .laid;
     same = p .same;
   }
+
+  pub gone-of : (x : ℕ) (y y′ : Yard) (o : Option ℕ) → o ≡ next net i x → Laid y → Came o t x y y′ → Gone net t i x y y′
+  gone-of x y y′ None e laid c = subst (λ z. Gone net t i x y z) (sym c) (gone-none x y e laid)
+  gone-of x y y′ (Some j) e laid c = gone-some x j y y′ e (c .0) (c .1)
 
   pub leads : (vs : List Vehicle) (v : Vehicle) → Some v ≡ first vs → v ≡ leader vs
   leads vs v e = led vs v e .0

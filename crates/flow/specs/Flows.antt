@@ -13,8 +13,8 @@ use Rattle.newell.specs.declared.records.Vehicle.{Vehicle}
 use Rattle.network.specs.Net.{Net, next, is}
 use Rattle.newell.specs.Plain.{towards}
 use Rattle.links.specs.declared.records.Yard.{Yard}
-use Rattle.line.specs.Spots.{written}
-use Rattle.links.specs.Yards.{holds, spotsOf, sizeOf, gaugeOf, Laid, Beyond}
+use Rattle.line.specs.Spots.{wrote, written}
+use Rattle.links.specs.Yards.{holds, spotsOf, sizeOf, gaugeOf, Laid, Beyond, Put}
 
 abbrev pub nobody : Vehicle
 nobody = record { exit = 0; since = 0 }
@@ -27,9 +27,23 @@ abbrev pub lasted : ℕ → Option Vehicle → Option ℕ
 lasted t None = None
 lasted t (Some v) = Some (t + 1 - v .since)
 
+-- a vehicle for x that comes on a link at the clock t + 1
+abbrev pub arrived : ℕ → ℕ → Vehicle
+arrived t x = record { exit = x; since = t + 1 }
+
 -- those that come on a link at the clock t + 1
 unfoldable pub stamped : ℕ → List ℕ → List Vehicle
 stamped t xs = map (λ x. record { exit = x; since = t + 1 }) xs
+
+-- the link that is taken next, if there is one, has room
+abbrev pub Roomy : Option ℕ → Yard → Type 0
+Roomy None y = Unit {0}
+Roomy (Some j) y = (j < 48) × (length (holds y j) < sizeOf y j)
+
+-- a vehicle for x has come on the link that is taken next, if there is one
+abbrev pub Came : Option ℕ → ℕ → ℕ → Yard → Yard → Type 0
+Came None t x y y′ = y′ ≡ y
+Came (Some j) t x y y′ = Put y y′ j (holds y j ++ arrived t x ∷ []) × (spotsOf y′ j ≡ wrote (spotsOf y j) (arrived t x))
 
 -- of vehicles that leave the link i, the exits of those that take the link j
 unfoldable pub going : Net → ℕ → ℕ → List Vehicle → List ℕ

@@ -8,32 +8,12 @@ ghost use Rattle.network.specs.Net.{next as nextOf};
 ghost use Rattle.newell.specs.History.{final};
 ghost use Rattle.network.specs.Nets.{netOf};
 ghost use Rattle.links.specs.Yards.{holds, sizeOf, Laid};
-ghost use Rattle.flow.specs.Flows.{going, Gone, Sent, leader, lasted};
+ghost use Rattle.flow.specs.Flows.{going, Sent, leader, lasted};
+use crate::coming::go_on;
+use crate::coming::time_on;
 use links::Side;
 use links::Yard;
 use network::Network;
-use newell::Vehicle;
-
-// A vehicle that has left the link `i` comes on its next link, if there is one.
-fn go_on(yard: &mut Yard, net: &Network, i: usize, x: u8, t: u32)
-    requires link { ⌜ i < netOf (now net) .links ⌝ }
-    requires laid { ⌜ Laid (now yard) ⌝ }
-    requires early { ⌜ t < 1000000 ⌝ }
-    requires room { ⌜ ((j : ℕ) → nextOf (netOf (now net)) i x ≡ Some j → (j < 48) × (length (holds (now yard) j) < sizeOf (now yard) j)) ⌝ }
-    ensures { λ _. ⌜ Gone (netOf (now (net .entry))) t i x (now (yard .entry)) (now (yard .exit)) ⌝ }
-{
-    match net.next(i, x) {
-        None => {}
-        Some(j) => yard.push(
-            Side::Road,
-            j,
-            Vehicle {
-                exit: x,
-                since: t + 1,
-            },
-        ),
-    }
-}
 
 // The first vehicle of the link `i` goes on; tells its travel time.
 fn pass_one(yard: &mut Yard, net: &Network, i: usize, t: u32) -> u32
@@ -50,13 +30,13 @@ fn pass_one(yard: &mut Yard, net: &Network, i: usize, t: u32) -> u32
         None => 0,
         Some(v) => {
             go_on(yard, net, i, v.exit, t);
-            t + 1 - v.since
+            time_on(v, t)
         }
     }
 }
 
 // The first `n` vehicles of the link `i` go on; tells the travel time of the last.
-pub fn send(yard: &mut Yard, net: &Network, i: usize, n: usize, t: u32) -> Option<u32>
+pub(crate) fn send(yard: &mut Yard, net: &Network, i: usize, n: usize, t: u32) -> Option<u32>
     requires link { ⌜ i < netOf (now net) .links ⌝ }
     requires laid { ⌜ Laid (now yard) ⌝ }
     requires early { ⌜ t < 1000000 ⌝ }

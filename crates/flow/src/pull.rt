@@ -4,9 +4,10 @@ ghost use Prim.Native.Nat.{ℕ, _+_, _-_, _<_, _≤_};
 ghost use lib.ListN.{length, take as taken, getD};
 ghost use Rattle.links.specs.Yards.{holds, sizeOf, Laid};
 ghost use Rattle.flow.specs.Flows.{Pulled, PulledAll, leader};
+use crate::coming::arriving;
+use crate::coming::coming;
 use links::Side;
 use links::Yard;
-use newell::Vehicle;
 
 // The first that waits for the link `j` comes on it.
 fn pull_one(yard: &mut Yard, j: usize, t: u32)
@@ -19,14 +20,7 @@ fn pull_one(yard: &mut Yard, j: usize, t: u32)
 {
     match yard.take(Side::Queue, j) {
         None => {}
-        Some(v) => yard.push(
-            Side::Road,
-            j,
-            Vehicle {
-                exit: v.exit,
-                since: t + 1,
-            },
-        ),
+        Some(v) => yard.push(Side::Road, j, arriving(v.exit, t)),
     }
 }
 
@@ -45,7 +39,7 @@ fn pull(yard: &mut Yard, j: usize, n: usize, t: u32)
 }
 
 // Those that wait for the first `count` links come on them, as many as `takes` says at most.
-pub fn pull_all(yard: &mut Yard, count: usize, takes: &[u16], t: u32)
+pub(crate) fn pull_all(yard: &mut Yard, count: usize, takes: &[u16], t: u32)
     requires few { ⌜ count ≤ 48 ⌝ }
     requires takes { ⌜ count ≤ length (now takes) ⌝ }
     requires laid { ⌜ Laid (now yard) ⌝ }
@@ -55,7 +49,7 @@ pub fn pull_all(yard: &mut Yard, count: usize, takes: &[u16], t: u32)
 {
     for j in 0..count {
         let waiting = yard.count(Side::Queue, j);
-        let n = waiting.min(takes[j] as usize);
+        let n = coming(waiting, takes[j]);
         pull(yard, j, n, t);
     }
 }
