@@ -11,7 +11,13 @@ use links::Yard;
 use network::Network;
 
 // Each link sends as many as `outs` says; `times` is told the travel time of the last of each.
-pub(crate) fn send_all(yard: &mut Yard, net: &Network, outs: &[u16], t: u32, times: &mut [Option<u32>])
+pub(crate) fn send_all(
+    yard: &mut Yard,
+    net: &Network,
+    outs: &[u16],
+    t: u32,
+    times: &mut [Option<u32>],
+)
     requires early { ⌜ t < 1000000 ⌝ }
     requires outs { ⌜ netOf (now net) .links ≤ length (now outs) ⌝ }
     requires times { ⌜ netOf (now net) .links ≤ length (now times) ⌝ }

@@ -24,7 +24,7 @@ impl Curve {
     }
 
     // The newest reading comes, the oldest goes.
-    pub fn note(&mut self, x: u32)
+    pub(crate) fn note(&mut self, x: u32)
         requires { ⌜ Full (now self) ⌝ }
         ensures { λ _. ⌜ Next (now (self .entry)) x (now (self .exit)) ⌝ }
     {
@@ -40,7 +40,7 @@ impl Curve {
     }
 
     // The reading of so many clocks ago.
-    pub fn back(&self, k: usize) -> u32
+    pub(crate) fn back(&self, k: usize) -> u32
         requires full { ⌜ Full (now self) ⌝ }
         requires near { ⌜ k ≤ 63 ⌝ }
         ensures { λ r. ⌜ r ≡ ago (now (self .entry)) k ⌝ }
