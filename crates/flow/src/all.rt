@@ -24,6 +24,7 @@ pub(crate) fn send_all(
     requires sendable { ⌜ Sendable (netOf (now net)) t (λ i. getD (now outs) i 0) (now yard) ⌝ }
     ensures sent { λ _. ⌜ SentAll (netOf (now (net .entry))) t (λ i. getD (now (outs .entry)) i 0) (netOf (now (net .entry)) .links) (now (yard .entry)) (now (yard .exit)) ⌝ }
     ensures time { λ _. ⌜ ((i : ℕ) → i < netOf (now (net .entry)) .links → getD (now (times .exit)) i None ≡ lasted t (final (taken (getD (now (outs .entry)) i 0) (holds (now (yard .entry)) i)))) ⌝ }
+    ensures beyond { λ _. ⌜ ((i : ℕ) → netOf (now (net .entry)) .links ≤ i → getD (now (times .exit)) i None ≡ getD (now (times .entry)) i None) ⌝ }
 {
     for i in 0..net.links() {
         times[i] = send(yard, net, i, outs[i] as usize, t);

@@ -7,6 +7,7 @@ ghost use Rattle.std.specs.declared.option.Option.the-variants.{Some, None};
 ghost use Rattle.network.specs.Net.{next as nextOf};
 ghost use Rattle.newell.specs.History.{final};
 ghost use Rattle.network.specs.Nets.{netOf};
+ghost use Rattle.links.specs.Tables.{tableSize, laneCount};
 ghost use Rattle.links.specs.Yards.{holds, sizeOf, Laid};
 ghost use Rattle.flow.specs.Flows.{going, Sent, leader, lasted};
 use crate::coming::go_on;
@@ -22,7 +23,7 @@ fn pass_one(yard: &mut Yard, net: &Network, i: usize, t: u32) -> u32
     requires early { ⌜ t < 1000000 ⌝ }
     requires some { ⌜ 0 < length (holds (now yard) i) ⌝ }
     requires past { ⌜ leader (holds (now yard) i) .since ≤ t ⌝ }
-    requires room { ⌜ ((j : ℕ) → nextOf (netOf (now net)) i (leader (holds (now yard) i) .exit) ≡ Some j → (j < 48) × (j ≢ i) × (length (holds (now yard) j) < sizeOf (now yard) j)) ⌝ }
+    requires room { ⌜ ((j : ℕ) → nextOf (netOf (now net)) i (leader (holds (now yard) i) .exit) ≡ Some j → (j < tableSize) × (j ≢ i) × (length (holds (now yard) j) < sizeOf (now yard) j)) ⌝ }
     ensures sent { λ _. ⌜ Sent (netOf (now (net .entry))) t i (leader (holds (now (yard .entry)) i) ∷ []) (now (yard .entry)) (now (yard .exit)) ⌝ }
     ensures time { λ r. ⌜ r ≡ t + 1 - leader (holds (now (yard .entry)) i) .since ⌝ }
 {
@@ -42,7 +43,7 @@ pub(crate) fn send(yard: &mut Yard, net: &Network, i: usize, n: usize, t: u32) -
     requires early { ⌜ t < 1000000 ⌝ }
     requires enough { ⌜ n ≤ length (holds (now yard) i) ⌝ }
     requires past { ⌜ ((k : ℕ) → k < n → getD (holds (now yard) i) k (record { exit = 0; since = 0 }) .since ≤ t) ⌝ }
-    requires room { ⌜ ((j : ℕ) → j < 96 → j ≢ i → length (holds (now yard) j) + length (going (netOf (now net)) i j (taken n (holds (now yard) i))) ≤ sizeOf (now yard) j) ⌝ }
+    requires room { ⌜ ((j : ℕ) → j < laneCount → j ≢ i → length (holds (now yard) j) + length (going (netOf (now net)) i j (taken n (holds (now yard) i))) ≤ sizeOf (now yard) j) ⌝ }
     ensures sent { λ _. ⌜ Sent (netOf (now (net .entry))) t i (taken n (holds (now (yard .entry)) i)) (now (yard .entry)) (now (yard .exit)) ⌝ }
     ensures time { λ r. ⌜ r ≡ lasted t (final (taken n (holds (now (yard .entry)) i))) ⌝ }
 {
