@@ -1,3 +1,4 @@
+// Vehicles that leave a link and come on the next one.
 ghost use mathlib.Core.Path.{_≡_};
 ghost use mathlib.Core.Logic.{_≢_};
 ghost use mathlib.Core.List.{[], _∷_, _++_};
