@@ -5,7 +5,7 @@ use mathlib.Core.List.{List, [], _∷_, _++_, map}
 use mathlib.Core.Bool.{cond}
 use denote.Ref.{name}
 use Prim.Native.Nat.{ℕ, zero, suc, _+_, _-_, _≤_, _<_}
-use lib.Dec.{ltb}
+use lib.Dec.{ltb, eqb}
 use lib.ListN.{getD, length, take, drop}
 use Rattle.std.specs.declared.option.Option.{Option}
 use Rattle.std.specs.declared.option.Option.the-variants.{Some, None}
@@ -27,6 +27,10 @@ leader vs = getD vs 0 nobody
 abbrev pub lasted : ℕ → Option Vehicle → Option ℕ
 lasted t None = None
 lasted t (Some v) = Some (t + 1 - v .since)
+
+-- that of the nth of vs, if n is not 0
+abbrev pub timeOf : ℕ → ℕ → List Vehicle → Option ℕ
+timeOf t n vs = cond (eqb n 0) None (Some (t + 1 - getD vs (n - 1) nobody .since))
 
 -- a vehicle for x that comes on a link at the clock t + 1
 abbrev pub arrived : ℕ → ℕ → Vehicle

@@ -1,11 +1,13 @@
 // A vehicle that comes on a link or leaves it.
 ghost use mathlib.Core.Path.{_≡_};
-ghost use Prim.Native.Nat.{_+_, _-_, _<_, _≤_, min as least};
+ghost use Prim.Native.Nat.{ℕ, _+_, _-_, _<_, _≤_, min as least};
+ghost use lib.ListN.{length, getD};
 ghost use Rattle.std.specs.declared.option.Option.the-variants.{Some, None};
 ghost use Rattle.network.specs.Net.{next as nextOf};
 ghost use Rattle.network.specs.Nets.{netOf};
-ghost use Rattle.links.specs.Yards.{Laid};
-ghost use Rattle.flow.specs.Flows.{arrived, Roomy, Came};
+ghost use Rattle.links.specs.Tables.{tableSize};
+ghost use Rattle.links.specs.Yards.{holds, Laid};
+ghost use Rattle.flow.specs.Flows.{nobody, timeOf, arrived, Roomy, Came};
 use links::Side;
 use links::Yard;
 use network::Network;
@@ -23,12 +25,28 @@ pub(crate) fn arriving(x: u8, t: u32) -> Vehicle
 }
 
 // How long a vehicle that leaves in the step from `t` was on its link.
-pub(crate) fn time_on(v: Vehicle, t: u32) -> u32
+fn time_on(v: Vehicle, t: u32) -> u32
     requires early { ⌜ t < 1000000 ⌝ }
     requires past { ⌜ v .since ≤ t ⌝ }
     ensures { λ r. ⌜ r ≡ t + 1 - v .since ⌝ }
 {
     t + 1 - v.since
+}
+
+// How long the nth of a link was on it, where the first `n` leave in the step from `t`.
+pub(crate) fn last_time(yard: &Yard, i: usize, n: usize, t: u32) -> Option<u32>
+    requires link { ⌜ i < tableSize ⌝ }
+    requires laid { ⌜ Laid (now yard) ⌝ }
+    requires early { ⌜ t < 1000000 ⌝ }
+    requires enough { ⌜ n ≤ length (holds (now yard) i) ⌝ }
+    requires past { ⌜ ((k : ℕ) → k < n → getD (holds (now yard) i) k nobody .since ≤ t) ⌝ }
+    ensures { λ r. ⌜ r ≡ timeOf t n (holds (now (yard .entry)) i) ⌝ }
+{
+    if n == 0 {
+        return None;
+    }
+    let v = yard.look(Side::Road, i, n - 1);
+    Some(time_on(v, t))
 }
 
 // How many of those that wait come on.

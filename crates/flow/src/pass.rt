@@ -12,28 +12,23 @@ ghost use Rattle.links.specs.Tables.{tableSize, laneCount};
 ghost use Rattle.links.specs.Yards.{holds, sizeOf, Laid};
 ghost use Rattle.flow.specs.Flows.{going, Sent, leader, lasted};
 use crate::coming::go_on;
-use crate::coming::time_on;
+use crate::coming::last_time;
 use links::Side;
 use links::Yard;
 use network::Network;
 
-// The first vehicle of the link `i` goes on; tells its travel time.
-fn pass_one(yard: &mut Yard, net: &Network, i: usize, t: u32) -> u32
+// The first vehicle of the link `i` goes on.
+fn pass_one(yard: &mut Yard, net: &Network, i: usize, t: u32)
     requires link { ⌜ i < netOf (now net) .links ⌝ }
     requires laid { ⌜ Laid (now yard) ⌝ }
     requires early { ⌜ t < 1000000 ⌝ }
     requires some { ⌜ 0 < length (holds (now yard) i) ⌝ }
-    requires past { ⌜ leader (holds (now yard) i) .since ≤ t ⌝ }
     requires room { ⌜ ((j : ℕ) → nextOf (netOf (now net)) i (leader (holds (now yard) i) .exit) ≡ Some j → (j < tableSize) × (j ≢ i) × (length (holds (now yard) j) < sizeOf (now yard) j)) ⌝ }
-    ensures sent { λ _. ⌜ Sent (netOf (now (net .entry))) t i (leader (holds (now (yard .entry)) i) ∷ []) (now (yard .entry)) (now (yard .exit)) ⌝ }
-    ensures time { λ r. ⌜ r ≡ t + 1 - leader (holds (now (yard .entry)) i) .since ⌝ }
+    ensures { λ _. ⌜ Sent (netOf (now (net .entry))) t i (leader (holds (now (yard .entry)) i) ∷ []) (now (yard .entry)) (now (yard .exit)) ⌝ }
 {
     match yard.take(Side::Road, i) {
-        None => 0,
-        Some(v) => {
-            go_on(yard, net, i, v.exit, t);
-            time_on(v, t)
-        }
+        None => {}
+        Some(v) => go_on(yard, net, i, v.exit, t),
     }
 }
 
@@ -48,9 +43,9 @@ pub(crate) fn send(yard: &mut Yard, net: &Network, i: usize, n: usize, t: u32) -
     ensures sent { λ _. ⌜ Sent (netOf (now (net .entry))) t i (taken n (holds (now (yard .entry)) i)) (now (yard .entry)) (now (yard .exit)) ⌝ }
     ensures time { λ r. ⌜ r ≡ lasted t (final (taken n (holds (now (yard .entry)) i))) ⌝ }
 {
-    let mut last = None;
+    let last = last_time(yard, i, n, t);
     for m in 0..n {
-        last = Some(pass_one(yard, net, i, t));
+        pass_one(yard, net, i, t);
     }
     last
 }

@@ -52,9 +52,9 @@ spot-at y l q d a b =
 pub areas-agree : (y y₁ y₂ : Yard) → Beyond y y₁ → Beyond y y₂ → ((k : ℕ) → k < laneCount → spotsOf y₁ k ≡ spotsOf y₂ k) → now (y₁ .area) ≡ now (y₂ .area)
 areas-agree y y₁ y₂ a b s = same-lists (now (y₁ .area)) (now (y₂ .area)) (a .wide ∙ sym (b .wide)) (λ q d h. ⊎-elim
     (λ f.
-        let l = f .0 in
-        spot-at y₁ l q d (omega (arith, f .2, a .starts l)) (omega (arith, f .3, a .starts l, a .sizes l))
-        ∙ ap₂ (λ (z : Spots Vehicle) n. getD (z .slots) (q - n) d) (s l (f .1)) (a .starts l ∙ sym (b .starts l))
-        ∙ sym (spot-at y₂ l q d (omega (arith, f .2, b .starts l)) (omega (arith, f .3, b .starts l, b .sizes l))))
+    let l = f .0 in
+    spot-at y₁ l q d (omega (arith, f .2, a .starts l)) (omega (arith, f .3, a .starts l, a .sizes l))
+    ∙ ap₂ (λ (z : Spots Vehicle) n. getD (z .slots) (q - n) d) (s l (f .1)) (a .starts l ∙ sym (b .starts l))
+    ∙ sym (spot-at y₂ l q d (omega (arith, f .2, b .starts l)) (omega (arith, f .3, b .starts l, b .sizes l))))
     (λ f. a .outside q d f ∙ sym (b .outside q d f))
     (within y q laneCount))
