@@ -3,13 +3,16 @@ use mathlib.Core.Path.{_≡_, refl, sym, ap, ap₂, _∙_, subst}
 use mathlib.Core.Logic.{_≢_, _⊎_, inl, inr, ⊎-elim}
 use mathlib.Core.List.{List, [], _∷_, _++_, map, append-assoc, append-nil}
 use mathlib.Core.Bool.{Bool, true, false, cond}
-use Prim.Native.Nat.{ℕ, _+_, _-_, _≤_, _<_}
+use native.Mathlib.Numerals.{add-one}
+use Prim.Native.Nat.{ℕ, zero, suc, _+_, _-_, _≤_, _<_}
 use native.Mathlib.Omega.{arith}
 use lib.ListN.{length, getD, take, drop, length-append}
 use Rattle.std.specs.declared.option.Option.{Option}
 use Rattle.std.specs.declared.option.Option.the-variants.{Some, None}
 use Rattle.std.proofs.shelf.Lists.{take-more, getD-append-right, length-take-le}
-use Rattle.std.proofs.shelf.Tests.{cases-eq}
+use borrow.Author.Tests.{ne-eqb}
+use lib.Dec.{eqb}
+use Rattle.std.proofs.shelf.Tests.{cases-eq, cond-false}
 use Rattle.line.specs.Ring.{first, rest}
 use Rattle.newell.specs.declared.records.Vehicle.{Vehicle}
 use Rattle.network.specs.Net.{Net, next}
@@ -19,9 +22,13 @@ use Rattle.line.specs.Spots.{wrote, written}
 use Rattle.line.proofs.Writing.{written-append}
 use Rattle.links.specs.Yards.{holds, spotsOf, sizeOf, Laid, Put}
 use Rattle.links.proofs.Spacing.{beyond-none, beyond-more}
-use Rattle.flow.specs.Flows.{going, taking, stamped, nobody, leader, lasted, Gone, Sent}
+use Rattle.flow.specs.Flows.{going, taking, stamped, nobody, leader, lasted, timeOf, Roomy, Came, Gone, Sent}
 use Rattle.flow.proofs.Fronts.{led}
 use Rattle.flow.proofs.Going.{stamped-append, stamped-none, stamped-one, stamped-length, going-nil, going-append, going-one, taking-some, taking-not, room-one}
+
+pub roomy-of : (y : Yard) (o : Option ℕ) → ((j : ℕ) → o ≡ Some j → (j < 48) × (length (holds y j) < sizeOf y j)) → Roomy o y
+roomy-of y None f = tt
+roomy-of y (Some j) f = f j refl
 
 module _ (net : Net) (t i : ℕ) where
   pub gone-none : (x : ℕ) (y : Yard) → None ≡ next net i x → Laid y → Gone net t i x y y
@@ -58,6 +65,10 @@ module _ (net : Net) (t i : ℕ) where
     laid = p .laid;
     same = p .same;
   }
+
+  pub gone-of : (x : ℕ) (y y′ : Yard) (o : Option ℕ) → o ≡ next net i x → Laid y → Came o t x y y′ → Gone net t i x y y′
+  gone-of x y y′ None e laid c = subst (λ z. Gone net t i x y z) (sym c) (gone-none x y e laid)
+  gone-of x y y′ (Some j) e laid c = gone-some x j y y′ e (c .0) (c .1)
 
   pub leads : (vs : List Vehicle) (v : Vehicle) → Some v ≡ first vs → v ≡ leader vs
   leads vs v e = led vs v e .0
@@ -144,6 +155,13 @@ module _ (net : Net) (t i : ℕ) where
   final-last (w ∷ []) v = refl
   final-last (w ∷ u ∷ us) v = final-last (u ∷ us) v
 
-  pub last-time : (xs ys : List Vehicle) (m r : ℕ) → m < length xs → leader ys ≡ getD xs m nobody → r ≡ t + 1 - leader ys .since → Some r ≡ lasted t (final (take (m + 1) xs))
-  last-time xs ys m r l e f =
-      ap Some (f ∙ ap (λ (v : Vehicle). t + 1 - v .since) e) ∙ ap (lasted t) (sym (ap final (take-more xs m nobody l) ∙ final-last (take m xs) (getD xs m nobody)))
+  -- the time of the nth is that of the last of the first n
+  pub last-is : (xs : List Vehicle) (n : ℕ) → n ≤ length xs → timeOf t n xs ≡ lasted t (final (take n xs))
+  last-is xs zero h = refl
+  last-is xs (suc m) h =
+      let e : take (suc m) xs ≡ take m xs ++ getD xs m nobody ∷ [] = ap (λ k. take k xs) (sym (add-one m)) ∙ take-more xs m nobody (omega arith) in
+      let no : suc m ≢ 0 = omega arith in
+      let d : suc m - 1 ≡ m = omega arith in
+      cond-false (eqb (suc m) 0) None (Some (t + 1 - getD xs (suc m - 1) nobody .since)) (ne-eqb (suc m) 0 no)
+      ∙ ap (λ k. Some (t + 1 - getD xs k nobody .since)) d
+      ∙ ap (lasted t) (sym (ap final e ∙ final-last (take m xs) (getD xs m nobody)))

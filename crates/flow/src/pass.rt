@@ -1,3 +1,4 @@
+// Vehicles that leave a link and come on the next one.
 ghost use mathlib.Core.Path.{_≡_};
 ghost use mathlib.Core.Logic.{_≢_};
 ghost use mathlib.Core.List.{[], _∷_, _++_};
@@ -7,68 +8,44 @@ ghost use Rattle.std.specs.declared.option.Option.the-variants.{Some, None};
 ghost use Rattle.network.specs.Net.{next as nextOf};
 ghost use Rattle.newell.specs.History.{final};
 ghost use Rattle.network.specs.Nets.{netOf};
+ghost use Rattle.links.specs.Tables.{tableSize, laneCount};
 ghost use Rattle.links.specs.Yards.{holds, sizeOf, Laid};
-ghost use Rattle.flow.specs.Flows.{going, Gone, Sent, leader, lasted};
+ghost use Rattle.flow.specs.Flows.{going, Sent, leader, lasted};
+use crate::coming::go_on;
+use crate::coming::last_time;
 use links::Side;
 use links::Yard;
 use network::Network;
-use newell::Vehicle;
 
-// A vehicle that has left the link `i` comes on its next link, if there is one.
-fn go_on(yard: &mut Yard, net: &Network, i: usize, x: u8, t: u32)
-    requires link { ⌜ i < netOf (now net) .links ⌝ }
-    requires laid { ⌜ Laid (now yard) ⌝ }
-    requires early { ⌜ t < 1000000 ⌝ }
-    requires room { ⌜ ((j : ℕ) → nextOf (netOf (now net)) i x ≡ Some j → (j < 48) × (length (holds (now yard) j) < sizeOf (now yard) j)) ⌝ }
-    ensures { λ _. ⌜ Gone (netOf (now (net .entry))) t i x (now (yard .entry)) (now (yard .exit)) ⌝ }
-{
-    match net.next(i, x) {
-        None => {}
-        Some(j) => yard.push(
-            Side::Road,
-            j,
-            Vehicle {
-                exit: x,
-                since: t + 1,
-            },
-        ),
-    }
-}
-
-// The first vehicle of the link `i` goes on; tells its travel time.
-fn pass_one(yard: &mut Yard, net: &Network, i: usize, t: u32) -> u32
+// The first vehicle of the link `i` goes on.
+fn pass_one(yard: &mut Yard, net: &Network, i: usize, t: u32)
     requires link { ⌜ i < netOf (now net) .links ⌝ }
     requires laid { ⌜ Laid (now yard) ⌝ }
     requires early { ⌜ t < 1000000 ⌝ }
     requires some { ⌜ 0 < length (holds (now yard) i) ⌝ }
-    requires past { ⌜ leader (holds (now yard) i) .since ≤ t ⌝ }
-    requires room { ⌜ ((j : ℕ) → nextOf (netOf (now net)) i (leader (holds (now yard) i) .exit) ≡ Some j → (j < 48) × (j ≢ i) × (length (holds (now yard) j) < sizeOf (now yard) j)) ⌝ }
-    ensures sent { λ _. ⌜ Sent (netOf (now (net .entry))) t i (leader (holds (now (yard .entry)) i) ∷ []) (now (yard .entry)) (now (yard .exit)) ⌝ }
-    ensures time { λ r. ⌜ r ≡ t + 1 - leader (holds (now (yard .entry)) i) .since ⌝ }
+    requires room { ⌜ ((j : ℕ) → nextOf (netOf (now net)) i (leader (holds (now yard) i) .exit) ≡ Some j → (j < tableSize) × (j ≢ i) × (length (holds (now yard) j) < sizeOf (now yard) j)) ⌝ }
+    ensures { λ _. ⌜ Sent (netOf (now (net .entry))) t i (leader (holds (now (yard .entry)) i) ∷ []) (now (yard .entry)) (now (yard .exit)) ⌝ }
 {
     match yard.take(Side::Road, i) {
-        None => 0,
-        Some(v) => {
-            go_on(yard, net, i, v.exit, t);
-            t + 1 - v.since
-        }
+        None => {}
+        Some(v) => go_on(yard, net, i, v.exit, t),
     }
 }
 
 // The first `n` vehicles of the link `i` go on; tells the travel time of the last.
-pub fn send(yard: &mut Yard, net: &Network, i: usize, n: usize, t: u32) -> Option<u32>
+pub(crate) fn send(yard: &mut Yard, net: &Network, i: usize, n: usize, t: u32) -> Option<u32>
     requires link { ⌜ i < netOf (now net) .links ⌝ }
     requires laid { ⌜ Laid (now yard) ⌝ }
     requires early { ⌜ t < 1000000 ⌝ }
     requires enough { ⌜ n ≤ length (holds (now yard) i) ⌝ }
     requires past { ⌜ ((k : ℕ) → k < n → getD (holds (now yard) i) k (record { exit = 0; since = 0 }) .since ≤ t) ⌝ }
-    requires room { ⌜ ((j : ℕ) → j < 96 → j ≢ i → length (holds (now yard) j) + length (going (netOf (now net)) i j (taken n (holds (now yard) i))) ≤ sizeOf (now yard) j) ⌝ }
+    requires room { ⌜ ((j : ℕ) → j < laneCount → j ≢ i → length (holds (now yard) j) + length (going (netOf (now net)) i j (taken n (holds (now yard) i))) ≤ sizeOf (now yard) j) ⌝ }
     ensures sent { λ _. ⌜ Sent (netOf (now (net .entry))) t i (taken n (holds (now (yard .entry)) i)) (now (yard .entry)) (now (yard .exit)) ⌝ }
     ensures time { λ r. ⌜ r ≡ lasted t (final (taken n (holds (now (yard .entry)) i))) ⌝ }
 {
-    let mut last = None;
+    let last = last_time(yard, i, n, t);
     for m in 0..n {
-        last = Some(pass_one(yard, net, i, t));
+        pass_one(yard, net, i, t);
     }
     last
 }

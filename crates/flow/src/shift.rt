@@ -1,3 +1,4 @@
+// All the moves of a step.
 ghost use mathlib.Core.Path.{_≡_};
 ghost use Prim.Native.Nat.{ℕ, _+_, _-_, _<_, _≤_};
 ghost use lib.ListN.{length, take as taken, getD};
@@ -27,6 +28,7 @@ pub fn shift(
     requires shiftable { ⌜ Shiftable (netOf (now net)) t (λ i. getD (now takes) i 0) (λ i. getD (now outs) i 0) (now yard) ⌝ }
     ensures shifted { λ _. ⌜ Shifted (netOf (now (net .entry))) t (λ i. getD (now (takes .entry)) i 0) (λ i. getD (now (outs .entry)) i 0) (now (yard .entry)) (now (yard .exit)) ⌝ }
     ensures time { λ _. ⌜ ((i : ℕ) → i < netOf (now (net .entry)) .links → getD (now (times .exit)) i None ≡ lasted t (final (taken (getD (now (outs .entry)) i 0) (holds (now (yard .entry)) i)))) ⌝ }
+    ensures beyond { λ _. ⌜ ((i : ℕ) → netOf (now (net .entry)) .links ≤ i → getD (now (times .exit)) i None ≡ getD (now (times .entry)) i None) ⌝ }
 {
     pull_all(yard, net.links(), takes, t);
     send_all(yard, net, outs, t, times);

@@ -62,3 +62,7 @@ outside start size old new a q d (inr l) =
     let e : (start + size) + (q - (start + size)) ≡ q = omega arith in
     let n = q - (start + size) in
     subst (λ k. getD new k d ≡ getD old k d) e (sym (getD-drop (start + size) new n d) ∙ ap (λ z. getD z n d) (a .after) ∙ getD-drop (start + size) old n d)
+
+-- the first entry of an empty queue that starts at its first slot will lie there
+pub tail-fresh : (size : ℕ) → round size (slotOf size 0 0) ≡ 0
+tail-fresh size = grind (arith, tells)

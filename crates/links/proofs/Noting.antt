@@ -14,10 +14,21 @@ use Rattle.links.specs.declared.records.Table.{Table}
 use Rattle.links.specs.declared.records.Change.the-variants.{Readings}
 use Rattle.links.specs.declared.records.Yard.{Yard}
 use Rattle.links.specs.Readings.{Full}
-use Rattle.links.specs.Tables.{laneAt, recordAt, gaugeIn, Changed}
+use Rattle.links.specs.Tables.{tableSize, laneAt, recordAt, Gauge, gaugeIn, freshCurve, Changed}
 use Rattle.line.specs.Spots.{spotsIn}
 use Rattle.links.specs.Yards.{inLane, holds, startOf, sizeOf, spotsOf, gaugeOf, Laid, AllFull, NotedAt}
 use Rattle.links.proofs.Marking.{lanes-same, part-same}
+
+-- readings that did not change are as full as they were
+pub full-kept : (y y′ : Yard) → ((i : ℕ) → gaugeOf y′ i ≡ gaugeOf y i) → length (y′ .table .links) ≡ tableSize → AllFull y → AllFull y′
+full-kept y y′ e w full = record {
+  whole = w;
+  ons = λ i h. subst (λ (g : Gauge). Full (g .ons)) (sym (e i)) (full .ons i h);
+  offs = λ i h. subst (λ (g : Gauge). Full (g .offs)) (sym (e i)) (full .offs i h);
+}
+
+pub fresh-full : Full freshCurve
+fresh-full = record { wide = refl; inside = omega arith; full = refl }
 
 module _ (y y′ : Yard) (i on off : ℕ) (time : Option ℕ) (b : i < 48) (full : AllFull y)
     (wrote : Changed (y .table) i (Readings on off time) (y′ .table)) (area : now (y′ .area) ≡ now (y .area)) (tied : name (y′ .area) ≡ name (y .area)) where

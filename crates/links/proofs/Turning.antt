@@ -40,23 +40,17 @@ rest-at : (rs : List ℕ) (k : ℕ) → length rs ≡ 64 → k < 63 → getD (re
 rest-at [] k e h = omega arith
 rest-at (r ∷ rs) k e h = let q : 63 - k ≡ suc (63 - (k + 1)) = omega arith in sym (ap (λ z. getD (r ∷ rs) z 0) q)
 
-pub next-of : (c c′ : Curve) (s : List ℕ) (m : Mark) (x : ℕ) (b : Bool) → Full c → length s ≡ 64 → Sound 64 m → queue s 0 64 m ≡ rest (readings c)
-    → length (c′ .slots) ≡ 64 → Sound 64 (c′ .mark) → b ≡ ltb (m .len) 64 → readings c′ ≡ cond b (queue s 0 64 m ++ x ∷ []) (queue s 0 64 m) → Next c x c′
+-- the readings once the oldest is gone and x has come
+pub next-of : (c c′ : Curve) (x : ℕ) → Full c → Full c′ → readings c′ ≡ rest (readings c) ++ x ∷ [] → Next c x c′
 unfolding back
-next-of c c′ s m x b f w h e w′ h′ told r = record {
-  full = record { wide = w′; inside = h′ .inside; full = sym (len-of (c′ .slots) (c′ .mark) w′ h′) ∙ ap length list ∙ length-append (rest (readings c)) (x ∷ []) ∙ omega (arith, n) };
+next-of c c′ x f f′ list = record {
+  full = f′;
   newest = ap (λ (rs : List ℕ). getD rs 63 0) list ∙ getD-append-right (rest (readings c)) (x ∷ []) 63 63 0 n (omega arith);
   older = λ k l. ap (λ (rs : List ℕ). getD rs (63 - (k + 1)) 0) list ∙ getD-append-left (rest (readings c)) (x ∷ []) 0 (63 - (k + 1)) (omega (arith, n)) ∙ rest-at (readings c) k (length-readings c f) l;
 }
   where
     n : length (rest (readings c)) ≡ 63
     n = length-rest (readings c) (length-readings c f)
-
-    t : b ≡ true
-    t = told ∙ lt-ltb (m .len) 64 (omega (arith, n, ap length e, len-of s m w h))
-
-    list : readings c′ ≡ rest (readings c) ++ x ∷ []
-    list = r ∙ cond-true b _ _ t ∙ ap (λ rs. rs ++ x ∷ []) e
 
 pub ago-of : (c : Curve) (k r : ℕ) → Full c → k ≤ 63 → Some r ≡ nth (readings c) (63 - k) → r ≡ back c k
 unfolding back

@@ -6,18 +6,22 @@ use lib.ListN.{getD, length}
 use Rattle.line.specs.Parts.{queue}
 use Rattle.links.specs.declared.records.Curve.{Curve}
 
+-- how many readings are kept of a curve
+abbrev pub readingCount : ℕ
+readingCount = 64
+
 pub record Full (c : Curve) : Type 0 where
-  pub wide : length (c .slots) ≡ 64
-  pub inside : c .mark .head ≤ 64
-  pub full : c .mark .len ≡ 64
+  pub wide : length (c .slots) ≡ readingCount
+  pub inside : c .mark .head ≤ readingCount
+  pub full : c .mark .len ≡ readingCount
 
 abbrev pub readings : Curve → List ℕ
-readings c = queue (c .slots) 0 64 (c .mark)
+readings c = queue (c .slots) 0 readingCount (c .mark)
 
 unfoldable pub back : Curve → ℕ → ℕ
-back c k = getD (readings c) (63 - k) 0
+back c k = getD (readings c) (readingCount - 1 - k) 0
 
 pub record Next (c : Curve) (x : ℕ) (c′ : Curve) : Type 0 where
   pub full : Full c′
   pub newest : back c′ 0 ≡ x
-  pub older : (k : ℕ) → k < 63 → back c′ (k + 1) ≡ back c k
+  pub older : (k : ℕ) → k < readingCount - 1 → back c′ (k + 1) ≡ back c k

@@ -17,7 +17,14 @@ use Rattle.links.specs.declared.records.Side.{Side}
 use Rattle.links.specs.declared.records.Side.the-variants as side
 use Rattle.links.specs.declared.records.Change.{Change}
 use Rattle.links.specs.declared.records.Change.the-variants.{Road, Queue, Readings}
-use Rattle.links.specs.Readings.{Full, Next}
+use Rattle.links.specs.Readings.{readingCount, Full, Next}
+
+-- how many links the table has places for, and how many lanes they have
+abbrev pub tableSize : ℕ
+tableSize = 48
+
+abbrev pub laneCount : ℕ
+laneCount = tableSize + tableSize
 
 abbrev pub blankLane : Lane
 blankLane = record { start = 0; size = 0; mark = record { head = 0; len = 0 } }
@@ -33,7 +40,7 @@ abbrev pub freshLane : ℕ → ℕ → Lane
 freshLane start size = record { start = start; size = size; mark = record { head = 0; len = 0 } }
 
 abbrev pub freshCurve : Curve
-freshCurve = record { slots = replicate 64 0; mark = record { head = 0; len = 64 } }
+freshCurve = record { slots = replicate readingCount 0; mark = record { head = 0; len = readingCount } }
 
 abbrev pub freshRecord : Lane → Lane → LinkRecord
 freshRecord road queue = record { road = road; queue = queue; ons = freshCurve; offs = freshCurve; travel = None }
@@ -41,13 +48,13 @@ freshRecord road queue = record { road = road; queue = queue; ons = freshCurve; 
 abbrev pub recordAt : Table → ℕ → LinkRecord
 recordAt table i = getD (table .links) i blankRecord
 
--- The lanes by number: the link i's is i, that of those who wait for it 48 + i.
+-- The lanes by number: the link i's is i, that of those who wait for it tableSize + i.
 abbrev pub laneNo : Side → ℕ → ℕ
 laneNo side.Road i = i
-laneNo side.Queue i = 48 + i
+laneNo side.Queue i = tableSize + i
 
 abbrev pub laneAt : Table → ℕ → Lane
-laneAt table k = cond (ltb k 48) (recordAt table k .road) (recordAt table (k - 48) .queue)
+laneAt table k = cond (ltb k tableSize) (recordAt table k .road) (recordAt table (k - tableSize) .queue)
 
 abbrev pub remarked : Lane → Mark → Lane
 remarked l m = record { start = l .start; size = l .size; mark = m }

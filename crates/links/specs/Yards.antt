@@ -12,7 +12,7 @@ use Rattle.newell.specs.declared.records.Vehicle.{Vehicle}
 use Rattle.links.specs.declared.records.Lane.{Lane}
 use Rattle.links.specs.declared.records.Yard.{Yard}
 use Rattle.links.specs.Readings.{Full}
-use Rattle.links.specs.Tables.{laneAt, recordAt, Gauge, gaugeIn, Noted}
+use Rattle.links.specs.Tables.{tableSize, laneCount, laneAt, recordAt, Gauge, gaugeIn, Noted}
 
 abbrev pub inLane : List Vehicle → Lane → List Vehicle
 inLane area l = queue area (l .start) (l .size) (l .mark)
@@ -37,23 +37,23 @@ gaugeOf y i = gaugeIn (recordAt (y .table) i)
 
 -- the lanes lie in the area, one behind the other, and each mark fits its lane
 pub record Laid (y : Yard) : Type 0 where
-  pub whole : length (y .table .links) ≡ 48
-  pub placed : (k : ℕ) → k < 96 → laneAt (y .table) k .start + laneAt (y .table) k .size ≤ length (now (y .area))
-  pub sound : (k : ℕ) → k < 96 → Sound (laneAt (y .table) k .size) (laneAt (y .table) k .mark)
-  pub apart : (j k : ℕ) → j < k → k < 96 → laneAt (y .table) j .start + laneAt (y .table) j .size ≤ laneAt (y .table) k .start
+  pub whole : length (y .table .links) ≡ tableSize
+  pub placed : (k : ℕ) → k < laneCount → laneAt (y .table) k .start + laneAt (y .table) k .size ≤ length (now (y .area))
+  pub sound : (k : ℕ) → k < laneCount → Sound (laneAt (y .table) k .size) (laneAt (y .table) k .mark)
+  pub apart : (j k : ℕ) → j < k → k < laneCount → laneAt (y .table) j .start + laneAt (y .table) j .size ≤ laneAt (y .table) k .start
 
 -- the lanes lie where they lay, and no slot outside them has changed
 pub record Beyond (y y′ : Yard) : Type 0 where
   pub starts : (l : ℕ) → startOf y′ l ≡ startOf y l
   pub sizes : (l : ℕ) → sizeOf y′ l ≡ sizeOf y l
   pub wide : length (now (y′ .area)) ≡ length (now (y .area))
-  pub outside : (q : ℕ) (d : Vehicle) → ((l : ℕ) → l < 96 → (q < startOf y l) ⊎ (startOf y l + sizeOf y l ≤ q)) → getD (now (y′ .area)) q d ≡ getD (now (y .area)) q d
+  pub outside : (q : ℕ) (d : Vehicle) → ((l : ℕ) → l < laneCount → (q < startOf y l) ⊎ (startOf y l + sizeOf y l ≤ q)) → getD (now (y′ .area)) q d ≡ getD (now (y .area)) q d
 
 -- the lane k holds vs now; all others hold what they held, and the readings are the same
 pub record Put (y y′ : Yard) (k : ℕ) (vs : List Vehicle) : Type 0 where
   pub here : holds y′ k ≡ vs
-  pub others : (l : ℕ) → l < 96 → l ≢ k → holds y′ l ≡ holds y l
-  pub spots : (l : ℕ) → l < 96 → l ≢ k → spotsOf y′ l ≡ spotsOf y l
+  pub others : (l : ℕ) → l < laneCount → l ≢ k → holds y′ l ≡ holds y l
+  pub spots : (l : ℕ) → l < laneCount → l ≢ k → spotsOf y′ l ≡ spotsOf y l
   pub beyond : Beyond y y′
   pub sizes : (l : ℕ) → sizeOf y′ l ≡ sizeOf y l
   pub gauges : (i : ℕ) → gaugeOf y′ i ≡ gaugeOf y i
@@ -61,9 +61,9 @@ pub record Put (y y′ : Yard) (k : ℕ) (vs : List Vehicle) : Type 0 where
   pub same : name (y′ .area) ≡ name (y .area)
 
 pub record AllFull (y : Yard) : Type 0 where
-  pub whole : length (y .table .links) ≡ 48
-  pub ons : (i : ℕ) → i < 48 → Full (gaugeOf y i .ons)
-  pub offs : (i : ℕ) → i < 48 → Full (gaugeOf y i .offs)
+  pub whole : length (y .table .links) ≡ tableSize
+  pub ons : (i : ℕ) → i < tableSize → Full (gaugeOf y i .ons)
+  pub offs : (i : ℕ) → i < tableSize → Full (gaugeOf y i .offs)
 
 -- the readings of the link i are noted; those of the others and all lanes are the same
 pub record NotedAt (y : Yard) (i on off : ℕ) (time : Option ℕ) (y′ : Yard) : Type 0 where

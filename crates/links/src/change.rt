@@ -2,7 +2,7 @@
 ghost use mathlib.Core.Path.{_≡_};
 ghost use Prim.Native.Nat.{_<_};
 ghost use lib.ListN.{length, set};
-ghost use Rattle.links.specs.Tables.{recordAt, laneAt, laneNo, Ready, Applied, Changed, Marked};
+ghost use Rattle.links.specs.Tables.{tableSize, recordAt, laneAt, laneNo, Ready, Applied, Changed, Marked};
 use crate::records::Change;
 use crate::records::Lane;
 use crate::records::LinkRecord;
@@ -30,7 +30,7 @@ impl LinkRecord {
 impl Table {
     // Every change of the table.
     pub fn change(&mut self, i: usize, change: Change)
-        requires here { ⌜ i < 48 ⌝ }
+        requires here { ⌜ i < tableSize ⌝ }
         requires ready { ⌜ Ready (recordAt (now self) i) change ⌝ }
         ensures { λ _. ⌜ Changed (now (self .entry)) i change (now (self .exit)) ⌝ }
     {
@@ -39,7 +39,7 @@ impl Table {
 
     // One of the two lanes of a link.
     pub fn lane(&self, side: Side, i: usize) -> Lane
-        requires { ⌜ i < 48 ⌝ }
+        requires { ⌜ i < tableSize ⌝ }
         ensures { λ r. ⌜ r ≡ laneAt (now (self .entry)) (laneNo side i) ⌝ }
     {
         match side {
@@ -48,9 +48,20 @@ impl Table {
         }
     }
 
+    // How many are in it.
+    pub fn count(&self, side: Side, i: usize) -> usize
+        requires { ⌜ i < tableSize ⌝ }
+        ensures { λ r. ⌜ r ≡ laneAt (now (self .entry)) (laneNo side i) .mark .len ⌝ }
+    {
+        match side {
+            Side::Road => self.links[i].road.mark.len,
+            Side::Queue => self.links[i].queue.mark.len,
+        }
+    }
+
     // The mark of a lane is replaced.
     pub fn mark(&mut self, side: Side, i: usize, mark: Mark)
-        requires { ⌜ i < 48 ⌝ }
+        requires { ⌜ i < tableSize ⌝ }
         ensures { λ _. ⌜ Marked (now (self .entry)) (laneNo side i) mark (now (self .exit)) ⌝ }
     {
         match side {

@@ -1,9 +1,10 @@
 // The run's one table of link records, over the vehicle area that is lent to it.
-pub mod change;
-pub mod curve;
-pub mod fresh;
+mod change;
+mod curve;
+mod fresh;
+mod lane;
 pub mod records;
-pub mod yard;
+mod yard;
 
 pub use records::Change;
 pub use records::Curve;

@@ -14,7 +14,7 @@ pub struct Lane {
     pub mark: Mark,
 }
 
-// The last 64 readings, in a line that is always full.
+// The last readings, in a line that is always full.
 #[derive(Clone, Copy)]
 pub struct Curve {
     pub slots: [u32; READINGS],

@@ -13,7 +13,7 @@ use Rattle.flow.proofs.Sending.{all-none, enough, past, room, time-same, all-m
 use Rattle.flow.proofs.all.send_all.Needs as need
 
 pub loop-i-holds : need.loop-i-holds
-loop-i-holds c = (all-none (netOf (c .args .net .now)) (c .args .t) (λ i. getD (c .args .outs .now) i 0) (c .args .yard .now) (c .pre .sendable .laid), λ i h. absurd (omega arith))
+loop-i-holds c = (all-none (netOf (c .args .net .now)) (c .args .t) (λ i. getD (c .args .outs .now) i 0) (c .args .yard .now) (c .pre .sendable .laid), λ i h. absurd (omega arith), λ i h. refl)
 
 pub send-requires : need.send-requires
 send-requires c κs =
@@ -47,4 +47,5 @@ loop-i-again c =
       below-more _ _
           (λ q h. let ne : q ≢ i = omega arith in getD-set-other (c .loop-i .times) i q (c .send .result) None ne ∙ c .loop-i .inv .1 q h)
           (getD-set-same (c .loop-i .times) i (c .send .result) None w ∙ c .send .ensures .time ∙ time-same net (c .args .t) k (c .args .yard .now) (c .loop-i .yard) i few low (c .pre .sendable) s bar),
+      λ q h. let ne : q ≢ i = omega arith in getD-set-other (c .loop-i .times) i q (c .send .result) None ne ∙ c .loop-i .inv .2 q (omega arith),
     )

@@ -1,5 +1,5 @@
 use mathlib.Core.Path.{_≡_}
-use Prim.Native.Nat.{ℕ, _<_}
+use Prim.Native.Nat.{ℕ, _<_, _≤_}
 use lib.ListN.{take, getD, length}
 use Rattle.std.specs.declared.option.Option.the-variants.{None}
 use Rattle.newell.specs.History.{final}
@@ -12,3 +12,4 @@ abbrev pub Inv-loop-i : given.InvT-loop-i
 Inv-loop-i l =
     SentAll (netOf (l .net)) (l .t) (λ i. getD (l .outs) i 0) (l .i) (l .entry .yard) (l .yard)
     × ((i : ℕ) → i < l .i → getD (l .times) i None ≡ lasted (l .t) (final (take (getD (l .outs) i 0) (holds (l .entry .yard) i))))
+    × ((i : ℕ) → l .i ≤ i → getD (l .times) i None ≡ getD (l .entry .times) i None)

@@ -10,7 +10,7 @@ use Rattle.std.specs.declared.option.Option.the-variants.{Some}
 use Rattle.network.specs.Nets.{netOf}
 use Rattle.links.specs.Yards.{holds, sizeOf}
 use Rattle.network.proofs.Rights.{right-of}
-use Rattle.flow.proofs.Passing.{leads, sent-one}
+use Rattle.flow.proofs.Passing.{leads, sent-one, roomy-of, gone-of}
 use Rattle.flow.proofs.Fronts.{none-leads}
 use Rattle.flow.proofs.pass.pass_one.Needs as need
 
@@ -28,14 +28,9 @@ go-on-requires c κs =
       link = c .pre .link;
       laid = p .laid;
       early = c .pre .early;
-      room = λ j f. let r = c .pre .room j (ap (λ (u : Vehicle). next net (c .args .i) (u .exit)) (sym e) ∙ f) in
-          (r .0, omega (arith, r .2, p .sizes j, ap length (p .others j (omega (arith, r .0)) (r .1))));
+      room = roomy-of (c .take .last .self) (next net (c .args .i) (v .exit)) (λ j f. let r = c .pre .room j (ap (λ (u : Vehicle). next net (c .args .i) (u .exit)) (sym e) ∙ f) in
+          (r .0, omega (arith, r .2, p .sizes j, ap length (p .others j (omega (arith, r .0)) (r .1)))));
     }
-
-pub sub-result : need.sub-result
-sub-result c =
-    let e = leads (netOf (c .args .net .now)) (c .args .t) (c .args .i) (holds (c .args .yard .now) (c .args .i)) (c .in-Some .v) (c .in-Some .ensures tt .told) in
-    omega (arith, ap (λ (u : Vehicle). u .since) e, c .pre .past)
 
 pub returns-in-None : need.returns-in-None
 returns-in-None c = absurd (none-leads (holds (c .args .yard .now) (c .args .i)) (c .in-None .ensures tt .told) (c .pre .some))
@@ -46,9 +41,6 @@ returns-in-Some c =
     let y = c .args .yard .now in
     let v = c .in-Some .v in
     let e = c .in-Some .ensures tt .told in
-    let q = leads net (c .args .t) (c .args .i) (holds y (c .args .i)) v e in
-    record {
-      sent = sent-one net (c .args .t) (c .args .i) y (c .take .last .self) (c .go-on .last .yard) v (omega (arith, c .pre .link, right-of (c .args .net .now) .count)) e (c .in-Some .ensures tt .put) (c .in-Some .ensures tt .spots) (c .go-on .ensures)
-          (λ f. c .pre .room (c .args .i) f .1 refl);
-      time = ap (λ (u : Vehicle). c .args .t + 1 - u .since) q;
-    }
+    sent-one net (c .args .t) (c .args .i) y (c .take .last .self) (c .go-on .last .yard) v (omega (arith, c .pre .link, right-of (c .args .net .now) .count)) e (c .in-Some .ensures tt .put) (c .in-Some .ensures tt .spots)
+    (gone-of net (c .args .t) (c .args .i) (v .exit) (c .take .last .self) (c .go-on .last .yard) (next net (c .args .i) (v .exit)) refl (c .in-Some .ensures tt .put .laid) (c .go-on .ensures))
+    (λ f. c .pre .room (c .args .i) f .1 refl)

@@ -8,12 +8,12 @@ use Rattle.flow.proofs.queue.queue_up.Needs as need
 pub loop-m-holds : need.loop-m-holds
 loop-m-holds c = (put-none (48 + c .args .j) (record { exit = c .args .x; since = 0 }) (c .args .yard .now) (c .pre .laid), refl)
 
-pub push-requires : need.push-requires
-push-requires c κs =
+pub wait-requires : need.wait-requires
+wait-requires c κs =
     let low : c .loop-m .m < c .args .n = omega arith in
     let s = c .loop-m .inv .0 in
     record {
-      here = c .pre .link;
+      link = c .pre .link;
       laid = s .laid;
       room = put-room (48 + c .args .j) (record { exit = c .args .x; since = 0 }) (c .args .yard .now) (c .loop-m .yard) (c .loop-m .m) (c .args .n) low s (c .pre .room);
     }
@@ -23,6 +23,6 @@ loop-m-again c =
     let low : c .loop-m .m < c .args .n = omega arith in
     let v : Vehicle = record { exit = c .args .x; since = 0 } in
     let s = c .loop-m .inv .0 in (
-      put-more (48 + c .args .j) v (c .args .yard .now) (c .loop-m .yard) (c .loop-m .m) (c .args .n) low s (c .push .last .self) (c .push .ensures .put),
-      spots-more (48 + c .args .j) v (c .args .yard .now) (c .loop-m .yard) (c .loop-m .m) (c .args .n) low s (c .push .last .self) (c .loop-m .inv .1) (c .push .ensures .spots),
+      put-more (48 + c .args .j) v (c .args .yard .now) (c .loop-m .yard) (c .loop-m .m) (c .args .n) low s (c .wait .last .yard) (c .wait .ensures .put),
+      spots-more (48 + c .args .j) v (c .args .yard .now) (c .loop-m .yard) (c .loop-m .m) (c .args .n) low s (c .wait .last .yard) (c .loop-m .inv .1) (c .wait .ensures .spots),
     )

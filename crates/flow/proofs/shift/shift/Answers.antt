@@ -51,4 +51,5 @@ returns c =
           (λ i x j l e. next-in (n .layout) (right-of n) i l x j e .0) (λ l h. fits y₁ l h (p .laid)) (c .send-all .last .yard) (c .send-all .ensures .sent);
       time = λ i l. c .send-all .ensures .time i l ∙ times-kept (netOf n) (c .args .t) r k y y₁ (right-of n .count) (c .pre .shiftable) p
           (λ i x j l e. next-in (n .layout) (right-of n) i l x j e .0) (λ l h. fits y₁ l h (p .laid)) i l;
+      beyond = c .send-all .ensures .beyond;
     }

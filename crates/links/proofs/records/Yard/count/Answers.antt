@@ -1,4 +1,5 @@
-use Rattle.links.specs.Tables.{laneNo}
+use mathlib.Core.Path.{_∙_, refl}
+use Rattle.links.specs.Tables.{laneNo, laneAt}
 use Rattle.links.proofs.Changing.{lane-few, count-of}
 use Rattle.links.proofs.records.Yard.count.Needs as need
 
@@ -6,4 +7,6 @@ pub returns : need.returns
 returns c =
     let s = c .args .side in
     let i = c .args .i in
-    count-of (c .args .self .now) (laneNo s i) (c .lane-lane .result) (lane-few s i (c .pre .here)) (c .pre .laid) (c .lane-lane .ensures)
+    let y = c .args .self .now in
+    let k = laneNo s i in
+    c .count .ensures ∙ count-of y k (laneAt (y .table) k) (lane-few s i (c .pre .here)) (c .pre .laid) refl

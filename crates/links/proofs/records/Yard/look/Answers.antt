@@ -6,8 +6,8 @@ use Rattle.links.specs.Yards.{holds}
 use Rattle.links.proofs.Changing.{lane-few, count-of, placed-of, sound-of, holds-of, looked}
 use Rattle.links.proofs.records.Yard.look.Needs as need
 
-pub look-in-requires : need.look-in-requires
-look-in-requires c κs =
+pub look-requires : need.look-requires
+look-requires c κs =
     let y = c .args .self .now in
     let k = laneNo (c .args .side) (c .args .i) in
     let b = lane-few (c .args .side) (c .args .i) (c .pre .here) in
@@ -23,4 +23,4 @@ pub returns : need.returns
 returns c =
     let y = c .args .self .now in
     let k = laneNo (c .args .side) (c .args .i) in
-    looked (holds y k) (c .args .q) (c .look-in .result) (c .pre .some) (c .look-in .ensures ∙ ap (λ vs. nth vs (c .args .q)) (holds-of y k (c .lane-lane .result) (c .lane-lane .ensures)))
+    looked (holds y k) (c .args .q) (c .look .result) (c .pre .some) (c .look .ensures ∙ ap (λ vs. nth vs (c .args .q)) (holds-of y k (c .lane-lane .result) (c .lane-lane .ensures)))

@@ -5,8 +5,8 @@ use Rattle.links.specs.Yards.{holds}
 use Rattle.links.proofs.Changing.{lane-few, placed-of, sound-of, holds-of, took, took-spots}
 use Rattle.links.proofs.records.Yard.take.Needs as need
 
-pub take-in-v-requires : need.take-in-v-requires
-take-in-v-requires c κs =
+pub take-v-requires : need.take-v-requires
+take-v-requires c κs =
     let y = c .args .self .now in
     let k = laneNo (c .args .side) (c .args .i) in
     let b = lane-few (c .args .side) (c .args .i) (c .pre .here) in
@@ -21,8 +21,8 @@ returns c =
     let b = lane-few (c .args .side) (c .args .i) (c .pre .here) in
     let l = c .lane-lane .result in
     let e = c .lane-lane .ensures in
-    let t = c .take-in-v .ensures in
-    let m = c .take-in-v .last .mark in
+    let t = c .take-v .ensures in
+    let m = c .take-v .last .self .mark in
     let h = holds-of y k l e in
     record {
       told = t .told ∙ ap first h;
