@@ -1,7 +1,9 @@
 // Reads the file row by row, and does each row before the next is read.
 use crate::show::show;
 use merge::Chosen;
+use merge::ChosenRule;
 use merge::Meter;
+use merge::MeterRule;
 use network::LINKS;
 use network::Network;
 use newell::StepRow;
@@ -15,8 +17,6 @@ use run::Refusal;
 use run::Run;
 use std::io;
 use words::Reader;
-use merge::ChosenRule;
-use merge::MeterRule;
 
 // How many vehicles there is space for.
 const SPACE: usize = 4000;
