@@ -31,7 +31,7 @@ fn refuse(rt: &LibcRuntime, number: u8, at: RowStart) -> io::Result<()> {
     println!(rt, "no {number} {line} {place}")
 }
 
-pub fn play(rt: &LibcRuntime, file: &[u8]) -> io::Result<()> {
+pub fn play_file(rt: &LibcRuntime, file: &[u8]) -> io::Result<()> {
     let mut reader = Reader::new(file);
     let mut corridor = Corridor::fresh();
     match read_network(&mut reader, &mut corridor) {
