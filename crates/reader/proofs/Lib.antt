@@ -1,3 +1,5 @@
 pub mod Standing
 pub mod Members
 pub mod Taking
+pub mod Answering
+pub mod Faithful

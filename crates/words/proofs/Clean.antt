@@ -104,12 +104,12 @@ module _ (file : List ℕ) (p : ℕ) (ts : List (List ℕ)) (some : 0 < length t
   pub line-passes : Passes (wordChecks file p)
   line-passes = (
     (λ q h.
-    let low = h .0 in
-    let high = h .1 in
-    let at : p + (q - p) ≡ q = omega arith in
-    let in′ : q - p < length (spaced ts) = omega (arith, ap length the-line) in
-    let is = at-reads 0 file (spaced ts) p (10 ∷ drop (length (lineOf ts)) (drop p file)) whole (q - p) in′ in
-    h .2 (subst Plain (sym (sym (ap (λ k. getD file k 0) at) ∙ is)) (all-getD Plain (spaced ts) (q - p) 0 in′ (plain-spaced ts clean)))),
+        let low = h .0 in
+        let high = h .1 in
+        let at : p + (q - p) ≡ q = omega arith in
+        let in′ : q - p < length (spaced ts) = omega (arith, ap length the-line) in
+        let is = at-reads 0 file (spaced ts) p (10 ∷ drop (length (lineOf ts)) (drop p file)) whole (q - p) in′ in
+        h .2 (subst Plain (sym (sym (ap (λ k. getD file k 0) at) ∙ is)) (all-getD Plain (spaced ts) (q - p) 0 in′ (plain-spaced ts clean)))),
     (
       (λ q h. no-empty (wordsAt file p) q (subst (All Clean) (sym line-words) clean) h),
       ((λ q h. let e = h .1 in omega (arith, fed)), tt),
