@@ -3,3 +3,4 @@ pub mod Members
 pub mod Taking
 pub mod Answering
 pub mod Faithful
+pub mod Writing

@@ -4,14 +4,16 @@ use mathlib.Core.List.{List, [], _∷_, _++_}
 use Prim.Native.Nat.{ℕ, _+_, _<_, _≤_}
 use lib.ListN.{length, getD}
 use Rattle.std.specs.declared.option.Option.the-variants.{Some}
+use Rattle.network.specs.Drafts.{IsMerge}
 use Rattle.network.specs.Layouts.{blankLink}
+use Rattle.network.specs.Net as law
 use Rattle.network.specs.declared.link.Link.{Link as LinkData}
 use Rattle.merge.specs.declared.choice.Choice.{Choice}
 use Rattle.rows.specs.declared.row.Row.{Row}
 use Rattle.rows.specs.declared.row.Row.the-variants.{Net, Link, Route, Merge, Meter, Go, Book, Step, Show}
 use Rattle.reader.specs.Calls.{CallAnswer, CallAnswers}
 use Rattle.reader.specs.Checks.{Sound}
-use Rattle.reader.specs.Files.{Answer, Answers}
+use Rattle.reader.specs.Files.{Answer, network, Answers}
 use Rattle.reader.specs.Said.{In, Said, saidBy}
 
 -- A file has one answer: no two networks, no two faults, and not both.
@@ -40,3 +42,33 @@ pub record Faithful (rows : List Row) : Type 0 where
 
 abbrev pub All-faithful : Type 0
 All-faithful = (rows : List Row) → Sound rows → Faithful rows
+
+-- A corridor that keeps the rules: a sound network, and meters at merges with their numbers in range.
+pub record SoundSaid (s : Said) : Type 0 where
+  pub net : law.Sound (s .net)
+  pub merge : (n u t : ℕ) → s .meters n ≡ Some (u, t) → IsMerge (s .net) n
+  pub rate : (n u t : ℕ) → s .meters n ≡ Some (u, t) → (1 ≤ u) × (u ≤ 200)
+  pub period : (n u t : ℕ) → s .meters n ≡ Some (u, t) → (1 ≤ t) × (t ≤ 63)
+
+-- the same nodes, links, routes, rule and meters
+pub record Agrees (s t : Said) : Type 0 where
+  pub nodes : t .net .nodes ≡ s .net .nodes
+  pub links : t .net .links ≡ s .net .links
+  pub link : (i : ℕ) → i < s .net .links → t .net .link i ≡ s .net .link i
+  pub route : (n x : ℕ) → t .net .route n x ≡ s .net .route n x
+  pub rule : t .rule ≡ s .rule
+  pub meters : (n : ℕ) → t .meters n ≡ s .meters n
+
+-- the text reads as a corridor that says s, up to its end
+pub record TextOf (s : Said) : Type 0 where
+  pub bytes : List ℕ
+  pub said : Said
+  pub line : ℕ
+  pub place : ℕ
+  pub last : ℕ
+  pub answer : Answers bytes 1 0 (network said line place last (length bytes))
+  pub agrees : Agrees s said
+
+-- Every corridor that keeps the rules has a text that reads as it.
+abbrev pub All-written : Type 0
+All-written = (s : Said) → SoundSaid s → TextOf s

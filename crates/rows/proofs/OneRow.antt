@@ -3,17 +3,18 @@ use mathlib.Core.Path.{_≡_, refl, sym, ap, subst, _∙_}
 use mathlib.Core.Logic.{_⊎_, inl, inr, ⊎-elim}
 use mathlib.Core.Bool.{Bool, true, false, cond}
 use mathlib.Core.List.{List, [], _∷_, _++_, map}
-use Prim.Native.Nat.{ℕ, _+_, _^_, _≤_, _<_}
+use Prim.Native.Nat.{ℕ, _+_, _*_, _^_, _≤_, _<_}
 use native.Mathlib.Omega.{arith}
 use lib.Dec.{eqb}
 use lib.ListN.{length, getD}
 use Rattle.std.specs.Written.{decimal}
 use Rattle.std.specs.shelf.Lists.{All}
-use Rattle.std.proofs.shelf.Decimals.{same-from-decimal}
+use Rattle.std.proofs.shelf.Decimals.{same-from-decimal, length-decimal-le}
+use Rattle.std.proofs.shelf.Lists.{length-append}
 use Rattle.std.proofs.shelf.Tests.{both-ways}
 use Rattle.words.specs.Lines.{Spot, wordsAt}
 use Rattle.words.specs.Tables.{Never, Passes}
-use Rattle.words.specs.Texts.{texts}
+use Rattle.words.specs.Texts.{texts, spaced}
 use Rattle.words.proofs.Clean.{Clean, clean-by, clean-decimal, line-words, line-passes}
 use Rattle.merge.specs.declared.choice.Choice.{Choice}
 use Rattle.merge.specs.declared.choice.Choice.the-variants.{Fair, Ramp, Zip}
@@ -227,3 +228,55 @@ same-row nodes links few small r s a b e =
 pub reads-once : (file : List ℕ) (p : ℕ) (stage : Stage) (nodes links : ℕ) → nodes ≤ 65535 → links ≤ 65535 → (r s : Row) → Reads file p stage nodes links r → Reads file p stage nodes links s → r ≡ s
 reads-once file p stage nodes links few small r s a b =
     same-row nodes links few small r s (a .ranged) (b .ranged) (sym (reads-words file p stage nodes links few small r a) ∙ reads-words file p stage nodes links few small s b)
+
+-- No row's text is over 42 bytes.
+short-rule : (r : Choice) → length (ruleText r) ≤ 5
+short-rule Fair = omega arith
+short-rule Ramp = omega arith
+short-rule Zip = omega arith
+
+short-name : (k : Kind) → length (nameOf k) ≤ 5
+short-name Net = omega arith
+short-name Link = omega arith
+short-name Route = omega arith
+short-name Merge = omega arith
+short-name Meter = omega arith
+short-name Go = omega arith
+short-name Book = omega arith
+short-name Step = omega arith
+short-name Show = omega arith
+
+few-words : (k : Kind) → countOf k ≤ 7
+few-words Net = omega arith
+few-words Link = omega arith
+few-words Route = omega arith
+few-words Merge = omega arith
+few-words Meter = omega arith
+few-words Go = omega arith
+few-words Book = omega arith
+few-words Step = omega arith
+few-words Show = omega arith
+
+abbrev Short : List ℕ → Type 0
+Short t = length t ≤ 5
+
+short-field : (w : Want) (f : Field) → SmallWant w → Allows w f → Short (written f)
+short-field (between lo hi) (number n) s a = let h = a .1 in length-decimal-le 5 n (omega arith) (omega arith) (omega arith)
+short-field (between lo hi) (rule r) s a = absurd a
+short-field ruleName (number n) s a = absurd a
+short-field ruleName (rule r) s a = short-rule r
+
+short-fields : (ws : List Want) (fs : List Field) → All SmallWant ws → Allowed ws fs → All Short (map written fs)
+short-fields [] [] s a = tt
+short-fields [] (f ∷ fs) s a = absurd a
+short-fields (w ∷ ws) [] s a = absurd a
+short-fields (w ∷ ws) (f ∷ fs) s a = (short-field w f (s .0) (a .0), short-fields ws fs (s .1) (a .1))
+
+short-spaced : (t : List ℕ) (ts : List (List ℕ)) → All Short (t ∷ ts) → length (spaced (t ∷ ts)) + 1 ≤ 6 * length (t ∷ ts)
+short-spaced t [] a = let h = a .0 in omega arith
+short-spaced t (u ∷ us) a = let h = a .0 in omega (arith, short-spaced u us (a .1), length-append t (32 ∷ spaced (u ∷ us)))
+
+pub text-short : (nodes links : ℕ) → nodes ≤ 65535 → links ≤ 65535 → (r : Row) → Ranged nodes links r → length (textOf r) ≤ 42
+text-short nodes links few small r a =
+    let fields = short-fields (wants nodes links (kindOf r)) (fieldsOf r) (small-wants nodes links few small (kindOf r)) a in
+    omega (arith, short-spaced (nameOf (kindOf r)) (map written (fieldsOf r)) (short-name (kindOf r), fields), length-append (spaced (spelled r)) (10 ∷ []), counted r, few-words (kindOf r))
