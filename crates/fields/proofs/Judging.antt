@@ -6,6 +6,11 @@ use mathlib.Core.List.{List, [], _∷_, _++_, map}
 use Prim.Native.Nat.{ℕ, _+_, _≤_, _<_}
 use native.Mathlib.Omega.{arith}
 use lib.ListN.{length}
+use Rattle.std.specs.Options.{Cases as Some-of}
+use Rattle.std.specs.declared.option.Option.{Option}
+use Rattle.std.specs.declared.option.Option.the-variants.{Some, None}
+use Rattle.std.specs.declared.result.Result.the-variants.{Err}
+use Rattle.std.proofs.shelf.Results.{cases-at-some, cases-at-none}
 use Rattle.std.proofs.shelf.Tests.{both-ways}
 use Rattle.words.specs.Lines.{Spot, wordsAt, endAt, wordChecks}
 use Rattle.words.specs.Tables.{Check, First, Never, Tells, Refuses, Passes}
@@ -14,7 +19,8 @@ use Rattle.words.specs.Tokens.{Taken, RefusedWords}
 use Rattle.words.specs.declared.fault.Told.{Told}
 use Rattle.words.proofs.Texts.{line-stands}
 use Rattle.rows.specs.Kinds.{nameOf, countOf, inOrder}
-use Rattle.rows.specs.Faults.{rowed}
+use Rattle.rows.specs.Faults.{rowed, rowTold}
+use Rattle.rows.specs.declared.fault.RowFault.{RowFault}
 use Rattle.rows.specs.Reading.{Named, behindName, rowChecks, lineChecks, Reads, Refused}
 use Rattle.rows.specs.Rows.{kindOf, fieldsOf, textOf, written}
 use Rattle.rows.specs.Wants.{wants, Unfit, Ranged}
@@ -22,7 +28,7 @@ use Rattle.rows.specs.declared.kind.Kind.{Kind}
 use Rattle.rows.specs.declared.kind.Stage.{Stage}
 use Rattle.rows.specs.declared.row.Row.{Row}
 use Rattle.rows.proofs.OneKind.{one-named}
-use Rattle.fields.specs.Taking.{leftOf, Within}
+use Rattle.fields.specs.Taking.{leftOf, Within, Checked}
 use Rattle.fields.proofs.Series.{left-in, left-taken}
 
 at-once : (p : ℕ) (X : Type 0) → X → First (λ q. (q ≡ p) × X) p
@@ -106,3 +112,19 @@ within-behind file f e p p′ w same is fed t =
     let step = left-taken file e p p′ w (sym is) t in
     subst (λ (x : List ℕ). Within x e p′ × (length (leftOf x e p′) + 1 ≡ length (wordsAt file p))) (sym same)
     (record { fed = fed; at = step .1 }, omega (arith, ap length (behind-first file e p p′ w (sym is) t)))
+
+-- what `kind_of` found
+pub kind-named : (w : Spot) (k : Kind) (o : Option Kind) → Some-of o ((j : Kind) → w .text ≡ nameOf j → ⊥) (λ j. w .text ≡ nameOf j) → o ≡ Some k → w .text ≡ nameOf k
+kind-named w k o h e = cases-at-some ((j : Kind) → w .text ≡ nameOf j → ⊥) (λ j. w .text ≡ nameOf j) k e h
+
+-- a name, order or count that is wrong is refused at the row's start
+pub unchecked : (file : List ℕ) (p l : ℕ) (stage : Stage) (nodes links : ℕ) → Passes (wordChecks file p) → (w : Spot) (ws : List Spot) → wordsAt file p ≡ w ∷ ws → (o : Option Kind) → Some-of o ((j : Kind) → w .text ≡ nameOf j → ⊥) (λ j. w .text ≡ nameOf j) → (count l′ p′ : ℕ) → count ≡ length (wordsAt file p) → l′ ≡ l → p′ ≡ p → (f : RowFault) → Checked o stage count l′ p′ (Err f) → Refused file p l stage nodes links (rowTold f)
+unchecked file p l stage nodes links good w ws cut o named count l′ p′ n le pe f (inl a) =
+    subst (λ (x : RowFault). Refused file p l stage nodes links (rowTold x)) (sym (a .1))
+    (row-refused-here file p l 11 l′ p′ stage nodes links le pe (row-name file p stage nodes links good l′ w ws cut (cases-at-none ((j : Kind) → w .text ≡ nameOf j → ⊥) (λ j. w .text ≡ nameOf j) (a .0) named)))
+unchecked file p l stage nodes links good w ws cut o named count l′ p′ n le pe f (inr (inl a)) =
+    subst (λ (x : RowFault). Refused file p l stage nodes links (rowTold x)) (sym (a .3))
+    (row-refused-here file p l 12 l′ p′ stage nodes links le pe (row-order file p stage nodes links good l′ w ws cut (a .0) (kind-named w (a .0) o named (a .1)) (a .2)))
+unchecked file p l stage nodes links good w ws cut o named count l′ p′ n le pe f (inr (inr a)) =
+    subst (λ (x : RowFault). Refused file p l stage nodes links (rowTold x)) (sym (a .4))
+    (row-refused-here file p l 13 l′ p′ stage nodes links le pe (row-count file p stage nodes links good l′ w ws cut (a .0) (kind-named w (a .0) o named (a .1)) (a .2) (λ e. a .3 (n ∙ e))))

@@ -1,20 +1,26 @@
 -- What the words behind a row's name give, taken one by one.
 use mathlib.Core.Path.{_≡_}
-use mathlib.Core.Bool.{cond}
+use mathlib.Core.Bool.{cond, true, false}
+use mathlib.Core.Logic.{_⊎_}
 use mathlib.Core.List.{List, [], _∷_, map}
 use Prim.Native.Nat.{ℕ, _<_, _≤_}
 use lib.Dec.{leb}
 use lib.ListN.{length, getD}
 use Rattle.std.specs.Results.{Cases}
 use Rattle.std.specs.Written.{decimal}
+use Rattle.std.specs.declared.option.Option.{Option}
+use Rattle.std.specs.declared.option.Option.the-variants.{Some, None}
 use Rattle.std.specs.declared.result.Result.{Result}
 use Rattle.words.specs.Lines.{Spot, wordsAt, endAt}
 use Rattle.words.specs.Tables.{First}
 use Rattle.words.specs.Tokens.{Taken}
+use Rattle.rows.specs.Kinds.{countOf, inOrder}
 use Rattle.rows.specs.Rows.{Field, number, ruleText}
 use Rattle.rows.specs.Wants.{Want, between, ruleName, Allows, Fits, Unfit}
 use Rattle.rows.specs.declared.fault.RowFault.{RowFault}
-use Rattle.rows.specs.declared.fault.RowFault.the-variants.{Value}
+use Rattle.rows.specs.declared.fault.RowFault.the-variants.{Name, Order, Count, Value}
+use Rattle.rows.specs.declared.kind.Kind.{Kind}
+use Rattle.rows.specs.declared.kind.Stage.{Stage}
 use Rattle.merge.specs.declared.choice.Choice.{Choice}
 use Rattle.fields.specs.declared.fields.Range.{Range}
 
@@ -59,3 +65,13 @@ pub record Narrow (ns : List ℕ) : Type 0 where
   pub free : getD ns 2 0 < 256
   pub wave : getD ns 3 0 < 256
   pub capacity : getD ns 4 0 < 256
+
+-- a name, order and count that are right, or the first of them that is not
+abbrev pub Checked : Option Kind → Stage → ℕ → ℕ → ℕ → Result Kind RowFault → Type 0
+Checked named stage count l p r =
+    Cases r
+    (λ k. (named ≡ Some k) × (inOrder stage k ≡ true) × (count ≡ countOf k))
+    (λ f.
+    ((named ≡ None) × (f ≡ Name l p))
+    ⊎ (((k : Kind) × (named ≡ Some k) × (inOrder stage k ≡ false) × (f ≡ Order l p))
+    ⊎ ((k : Kind) × (named ≡ Some k) × (inOrder stage k ≡ true) × (count ≡ countOf k → ⊥) × (f ≡ Count l p))))

@@ -1,3 +1,6 @@
 pub mod Standing
 pub mod Members
 pub mod Taking
+pub mod Answering
+pub mod Faithful
+pub mod Writing

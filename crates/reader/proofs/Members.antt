@@ -71,17 +71,17 @@ meter-in (Book n x k ∷ rows) m v s e = inr (meter-in rows m v s e)
 meter-in (Step k ∷ rows) m v s e = inr (meter-in rows m v s e)
 meter-in (Show ∷ rows) m v s e = inr (meter-in rows m v s e)
 
-abbrev nodeOf : Row → ℕ
+abbrev pub nodeOf : Row → ℕ
 nodeOf r = elim r [ Net n l ↦ 0 | Link k ↦ 0 | Route n x k ↦ n | Merge u ↦ 0 | Meter n u t ↦ n | Go ↦ 0 | Book n x k ↦ 0 | Step k ↦ 0 | Show ↦ 0 ]
 
-abbrev exitOf : Row → ℕ
+abbrev pub exitOf : Row → ℕ
 exitOf r = elim r [ Net n l ↦ 0 | Link k ↦ 0 | Route n x k ↦ x | Merge u ↦ 0 | Meter n u t ↦ u | Go ↦ 0 | Book n x k ↦ 0 | Step k ↦ 0 | Show ↦ 0 ]
 
-abbrev lastOf : Row → ℕ
+abbrev pub lastOf : Row → ℕ
 lastOf r = elim r [ Net n l ↦ 0 | Link k ↦ 0 | Route n x k ↦ k | Merge u ↦ 0 | Meter n u t ↦ t | Go ↦ 0 | Book n x k ↦ 0 | Step k ↦ 0 | Show ↦ 0 ]
 
 -- the tags of rows, to tell them apart
-abbrev tagOf : Row → ℕ
+abbrev pub tagOf : Row → ℕ
 tagOf r = elim r [ Net n l ↦ 0 | Link k ↦ 1 | Route n x k ↦ 2 | Merge u ↦ 3 | Meter n u t ↦ 4 | Go ↦ 5 | Book n x k ↦ 6 | Step k ↦ 7 | Show ↦ 8 ]
 
 pub meter-some : (rows : List Row) (m v s : ℕ) → In (Meter m v s) rows → metersSaid rows m ≡ None → ⊥

@@ -5,3 +5,4 @@ pub mod Files
 pub mod Fresh
 pub mod Heads
 pub mod Calls
+pub mod Laws

@@ -3,6 +3,7 @@ pub mod calls;
 pub mod corridor;
 pub mod fault;
 pub mod head;
+pub mod laws;
 pub mod load;
 pub mod take;
 
