@@ -1,15 +1,22 @@
 -- What a store holds in the words of the law.
 use mathlib.Core.Path.{_≡_}
-use Prim.Native.Nat.{ℕ, _+_, _≤_}
-use lib.ListN.{length}
+use mathlib.Core.Logic.{_≢_}
+use mathlib.Core.List.{List}
+use Prim.Native.Nat.{ℕ, _+_, _≤_, _<_}
+use lib.ListN.{length, replicate}
 use Rattle.std.specs.declared.result.Result.{Result}
 use Rattle.std.specs.declared.result.Result.the-variants.{Ok, Err}
 use Rattle.network.specs.Net.{Net, Entrance, Exit, Served}
 use Rattle.network.specs.Nets.{netOf}
-use Rattle.newell.specs.Now.{RunNow, Carries}
+use Rattle.newell.specs.Now.{RunNow, Queued, Carries}
 use Rattle.newell.specs.History.{Reply, told, refused, book}
 use Rattle.plan.specs.View.{viewOf}
-use Rattle.step.specs.Steps.{Built}
+use Rattle.merge.specs.Rules.{Meaning}
+use Rattle.newell.specs.declared.records.StepRow.{StepRow}
+use Rattle.line.specs.Spots.{written}
+use Rattle.links.specs.declared.records.Yard.{Yard}
+use Rattle.links.specs.Yards.{spotsOf, Beyond}
+use Rattle.step.specs.Steps.{Built, Advanced}
 use Rattle.run.specs.declared.store.Store.{Store}
 use Rattle.run.specs.declared.store.Refusal.{Refusal}
 use Rattle.run.specs.declared.store.Refusal.the-variants.{SmallArea, NoEntrance, NoExit, Unserved, BadCount, NoPlace, Late, NoLink, FewRows}
@@ -53,3 +60,19 @@ pub record Bookable (net : Net) (r : RunNow) (e x n j : ℕ) : Type 0 where
 abbrev pub Judged : Net → RunNow → ℕ → ℕ → ℕ → Result ℕ Refusal → Type 0
 Judged net r e x n (Ok j) = Bookable net r e x n j
 Judged net r e x n (Err q) = Carries net r (book e x n (refused (number q))) r
+
+-- what the slots of the area hold behind a booking for the link j: the vehicles are written behind each other, round the part of those who wait for it
+pub record AreaBooked (y : Yard) (j x n : ℕ) (y′ : Yard) : Type 0 where
+  pub here : spotsOf y′ (48 + j) ≡ written (spotsOf y (48 + j)) (replicate n (record { exit = x; since = 0 }))
+  pub others : (l : ℕ) → l < 96 → l ≢ 48 + j → spotsOf y′ l ≡ spotsOf y l
+  pub beyond : Beyond y y′
+
+-- an accepted booking writes to the part of the entrance's link, and the vehicles wait behind those that waited
+abbrev pub BookedIn : Store → ℕ → ℕ → ℕ → Result (Unit {0}) Refusal → Store → Type 0
+BookedIn s e x n (Ok u) s′ = (j : ℕ) × Entrance (netOf (s .net)) e j × AreaBooked (s .yard) j x n (s′ .yard) × Queued (netOf (s .net)) (viewIn s) j x n (viewIn s′)
+BookedIn s e x n (Err q) s′ = Unit {0}
+
+-- an accepted step: what area, run, rows and rule hold behind it, and the clock
+pub record SteppedIn (s : Store) (m : Meaning) (rows : List StepRow) (s′ : Store) (m′ : Meaning) (rows′ : List StepRow) : Type 0 where
+  pub advanced : Advanced (netOf (s .net)) (s .clock) (s .yard) m rows (s′ .yard) m′ rows′
+  pub clock : s′ .clock ≡ s .clock + 1

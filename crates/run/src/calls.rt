@@ -7,8 +7,8 @@ ghost use Rattle.links.specs.Yards.{holds, sizeOf};
 ghost use Rattle.network.specs.Nets.{netOf};
 ghost use Rattle.newell.specs.History.{ask-entrance as asking-in, ask-exit as asking-out};
 ghost use Rattle.newell.specs.Now.{Reached, Queued, stateNow, Carries};
-ghost use Rattle.step.specs.Steps.{Stepped};
-ghost use Rattle.run.specs.Stores.{viewIn, BuiltIn, Judged, answerOf};
+ghost use Rattle.step.specs.Steps.{Advanced};
+ghost use Rattle.run.specs.Stores.{viewIn, BuiltIn, Judged, AreaBooked, answerOf};
 use crate::store::Refusal;
 use crate::store::Store;
 use flow::queue::queue_up;
@@ -32,7 +32,8 @@ impl<'a> Store<'a> {
         requires reached { ⌜ Reached (netOf (now self .net)) (viewIn (now self)) ⌝ }
         requires early { ⌜ now self .clock < 1000000 ⌝ }
         requires rows { ⌜ netOf (now self .net) .links ≤ length (now rows) ⌝ }
-        ensures stepped { λ _. ⌜ Stepped (netOf (now (self .entry) .net)) (viewIn (now (self .entry))) (R·MergeRule .meaning (now (rule .entry))) (now (rows .entry)) (viewIn (now (self .exit))) (R·MergeRule .meaning (now (rule .exit))) (now (rows .exit)) ⌝ }
+        ensures advanced { λ _. ⌜ Advanced (netOf (now (self .entry) .net)) (now (self .entry) .clock) (now (self .entry) .yard) (R·MergeRule .meaning (now (rule .entry))) (now (rows .entry)) (now (self .exit) .yard) (R·MergeRule .meaning (now (rule .exit))) (now (rows .exit)) ⌝ }
+        ensures clock { λ _. ⌜ now (self .exit) .clock ≡ now (self .entry) .clock + 1 ⌝ }
         ensures same { λ _. ⌜ name (now (self .exit) .yard .area) ≡ name (now (self .entry) .yard .area) ⌝ }
         ensures built { λ _. ⌜ BuiltIn (now (self .exit)) ⌝ }
         ensures net { λ _. ⌜ now (self .exit) .net ≡ now (self .entry) .net ⌝ }
@@ -68,6 +69,7 @@ impl<'a> Store<'a> {
         requires link { ⌜ j < netOf (now self .net) .links ⌝ }
         requires room { ⌜ length (holds (now self .yard) (48 + j)) + n ≤ sizeOf (now self .yard) (48 + j) ⌝ }
         ensures queued { λ _. ⌜ Queued (netOf (now (self .entry) .net)) (viewIn (now (self .entry))) j x n (viewIn (now (self .exit))) ⌝ }
+        ensures area { λ _. ⌜ AreaBooked (now (self .entry) .yard) j x n (now (self .exit) .yard) ⌝ }
         ensures same { λ _. ⌜ name (now (self .exit) .yard .area) ≡ name (now (self .entry) .yard .area) ⌝ }
         ensures built { λ _. ⌜ BuiltIn (now (self .exit)) ⌝ }
         ensures net { λ _. ⌜ now (self .exit) .net ≡ now (self .entry) .net ⌝ }

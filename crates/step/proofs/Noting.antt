@@ -14,6 +14,7 @@ use Rattle.links.specs.declared.records.Yard.{Yard}
 use Rattle.links.specs.Readings.{back, Next}
 use Rattle.links.specs.Tables.{Gauge, Noted}
 use Rattle.links.specs.Yards.{holds, gaugeOf, NotedAt}
+use Rattle.links.proofs.Spacing.{beyond-none, beyond-more}
 use Rattle.plan.specs.View.{ons, offs}
 use Rattle.step.specs.Notes.{Written, Still}
 
@@ -28,15 +29,17 @@ written-of a b o u gone count time p q n = record {
 }
 
 pub still-of : (y : Yard) (i on off : ℕ) (time : Option ℕ) (y′ : Yard) → NotedAt y i on off time y′ → Still y y′
-still-of y i on off time y′ n = record { lanes = n .lanes; holds = n .holds; sizes = n .sizes; laid = n .laid; area = n .area; same = n .same }
+still-of y i on off time y′ n = record { lanes = n .lanes; holds = n .holds; spots = n .spots; beyond = n .beyond; sizes = n .sizes; laid = n .laid; area = n .area; same = n .same }
 
 pub still-none : (y : Yard) → Still y y
-still-none y = record { lanes = λ l. refl; holds = λ l. refl; sizes = λ l. refl; laid = λ h. h; area = refl; same = refl }
+still-none y = record { lanes = λ l. refl; holds = λ l. refl; spots = λ l. refl; beyond = beyond-none y; sizes = λ l. refl; laid = λ h. h; area = refl; same = refl }
 
 pub still-more : (y y′ y″ : Yard) → Still y y′ → Still y′ y″ → Still y y″
 still-more y y′ y″ a b = record {
   lanes = λ l. b .lanes l ∙ a .lanes l;
   holds = λ l. b .holds l ∙ a .holds l;
+  spots = λ l. b .spots l ∙ a .spots l;
+  beyond = beyond-more y y′ y″ (a .beyond) (b .beyond);
   sizes = λ l. b .sizes l ∙ a .sizes l;
   laid = λ h. b .laid (a .laid h);
   area = b .area ∙ a .area;

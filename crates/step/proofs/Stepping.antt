@@ -30,7 +30,7 @@ use Rattle.network.specs.Layouts.{linkOf}
 use Rattle.network.proofs.Rights.{right-of, sound-of}
 use Rattle.network.proofs.Nexts.{next-in}
 use Rattle.links.specs.declared.records.Yard.{Yard}
-use Rattle.links.specs.Yards.{holds, sizeOf, gaugeOf, Laid, AllFull}
+use Rattle.links.specs.Yards.{holds, sizeOf, gaugeOf, spotsOf, Laid, AllFull}
 use Rattle.links.proofs.Changing.{fits}
 use Rattle.flow.specs.Flows.{going, stamped, exits, nobody, cameBy, Shifted, Shiftable}
 use Rattle.flow.specs.Flows as flows
@@ -41,7 +41,9 @@ use Rattle.links.specs.Tables.{Gauge}
 use Rattle.plan.specs.View.{viewOf, ons, offs, sendsOf, takesOf, Readable}
 use Rattle.plan.specs.Plans.{Plannable}
 use Rattle.step.specs.Notes.{Written, Still}
-use Rattle.step.specs.Steps.{Built, Stepped}
+use Rattle.line.specs.Spots.{written as inked}
+use Rattle.links.proofs.Spacing.{beyond-more}
+use Rattle.step.specs.Steps.{Built, Stepped, Advanced}
 
 joined-append : {A B : Type 0} (f : A → List B) (xs ys : List A) → joined f (xs ++ ys) ≡ joined f xs ++ joined f ys
 joined-append f [] ys = refl
@@ -200,6 +202,18 @@ module _ (n : Network) (y : Yard) (t : ℕ) (built : Built (netOf n) y) (reached
 
         pub stepped : Stepped (netOf n) (viewOf y t) m rows (viewOf y″ (t + 1)) m′ rows′
         stepped = record { out = k; passes = passes; moved = moved; filled = filled; asked = asked }
+
+        pub advanced : Advanced (netOf n) t y m rows y″ m′ rows′
+        unfolding stamped stepped
+        advanced = record {
+          stepped = stepped;
+          area = record {
+            roads = λ j l. still .spots j ∙ (s .spots j l ∙ ap (λ xs. inked (spotsOf y j) (map (λ x. record { exit = x; since = t + 1 }) xs)) (sym (arrive-is j l)));
+            queues = λ j l. still .spots (48 + j) ∙ s .rests j l;
+            idle = λ j l h. still .spots j ∙ s .idle j l h .2;
+            beyond = beyond-more y y′ y″ (s .beyond) (still .beyond);
+          };
+        }
 
         pub built-again : Built (netOf n) y″
         built-again = record {

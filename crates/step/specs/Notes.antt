@@ -8,7 +8,7 @@ use Rattle.newell.specs.declared.records.StepRow.{StepRow}
 use Rattle.links.specs.declared.records.Yard.{Yard}
 use Rattle.links.specs.Readings.{back, Next}
 use Rattle.links.specs.Tables.{Gauge, laneAt}
-use Rattle.links.specs.Yards.{holds, sizeOf, Laid}
+use Rattle.links.specs.Yards.{holds, sizeOf, spotsOf, Beyond, Laid}
 
 -- `gone` have left the link, `count` are on it: its readings are noted, and its row is filled
 pub record Written (a : Gauge) (gone count : ℕ) (time : Option ℕ) (line : StepRow) (b : Gauge) : Type 0 where
@@ -21,6 +21,8 @@ pub record Written (a : Gauge) (gone count : ℕ) (time : Option ℕ) (line : St
 pub record Still (y y′ : Yard) : Type 0 where
   pub lanes : (l : ℕ) → laneAt (y′ .table) l ≡ laneAt (y .table) l
   pub holds : (l : ℕ) → holds y′ l ≡ holds y l
+  pub spots : (l : ℕ) → spotsOf y′ l ≡ spotsOf y l
+  pub beyond : Beyond y y′
   pub sizes : (l : ℕ) → sizeOf y′ l ≡ sizeOf y l
   pub laid : Laid y → Laid y′
   pub area : now (y′ .area) ≡ now (y .area)

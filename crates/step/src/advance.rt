@@ -6,7 +6,7 @@ ghost use lib.ListN.{length};
 ghost use Rattle.network.specs.Nets.{netOf};
 ghost use Rattle.newell.specs.Now.{Reached};
 ghost use Rattle.plan.specs.View.{viewOf};
-ghost use Rattle.step.specs.Steps.{Built, Stepped};
+ghost use Rattle.step.specs.Steps.{Built, Advanced};
 use crate::note::note_all;
 use flow::shift::shift;
 use links::Yard;
@@ -29,7 +29,7 @@ pub fn advance<R: MergeRule>(
     requires reached { ⌜ Reached (netOf (now net)) (viewOf (now yard) clock) ⌝ }
     requires early { ⌜ clock < 1000000 ⌝ }
     requires rows { ⌜ netOf (now net) .links ≤ length (now rows) ⌝ }
-    ensures stepped { λ _. ⌜ Stepped (netOf (now (net .entry))) (viewOf (now (yard .entry)) clock) (R·MergeRule .meaning (now (rule .entry))) (now (rows .entry)) (viewOf (now (yard .exit)) (clock + 1)) (R·MergeRule .meaning (now (rule .exit))) (now (rows .exit)) ⌝ }
+    ensures advanced { λ _. ⌜ Advanced (netOf (now (net .entry))) clock (now (yard .entry)) (R·MergeRule .meaning (now (rule .entry))) (now (rows .entry)) (now (yard .exit)) (R·MergeRule .meaning (now (rule .exit))) (now (rows .exit)) ⌝ }
     ensures same { λ _. ⌜ name (now (yard .exit) .area) ≡ name (now (yard .entry) .area) ⌝ }
     ensures built { λ _. ⌜ Built (netOf (now (net .entry))) (now (yard .exit)) ⌝ }
 {

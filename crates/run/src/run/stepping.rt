@@ -5,7 +5,7 @@ ghost use Rattle.std.specs.declared.result.Result.the-variants.{Ok, Err};
 ghost use Rattle.network.specs.Nets.{netOf};
 ghost use Rattle.newell.specs.History.{step as stepping};
 ghost use Rattle.newell.specs.Now.{Carries};
-ghost use Rattle.run.specs.Stores.{viewIn, replyOf};
+ghost use Rattle.run.specs.Stores.{viewIn, replyOf, SteppedIn};
 use super::Run;
 use crate::store::Refusal;
 use merge::MergeRule;
@@ -20,7 +20,7 @@ impl<'a> Run<'a> {
         ensures carries { λ r. ⌜ Carries (netOf (now (self .entry) .store .net)) (viewIn (now (self .entry) .store)) (stepping (R·MergeRule .meaning (now (rule .entry))) (now (rows .entry)) (replyOf r) (R·MergeRule .meaning (now (rule .exit))) (now (rows .exit))) (viewIn (now (self .exit) .store)) ⌝ }
         ensures net { λ _. ⌜ now (self .exit) .store .net ≡ now (self .entry) .store .net ⌝ }
         ensures same { λ _. ⌜ name (now (self .exit) .store .yard .area) ≡ name (now (self .entry) .store .yard .area) ⌝ }
-        ensures kept { λ r. ⌜ elim r [ Ok u ↦ Unit {0} | Err e ↦ (now (self .exit) ≡ now (self .entry)) × (now (rule .exit) ≡ now (rule .entry)) × (now (rows .exit) ≡ now (rows .entry)) ] ⌝ }
+        ensures left { λ r. ⌜ elim r [ Ok u ↦ SteppedIn (now (self .entry) .store) (R·MergeRule .meaning (now (rule .entry))) (now (rows .entry)) (now (self .exit) .store) (R·MergeRule .meaning (now (rule .exit))) (now (rows .exit)) | Err e ↦ (now (self .exit) ≡ now (self .entry)) × (now (rule .exit) ≡ now (rule .entry)) × (now (rows .exit) ≡ now (rows .entry)) ] ⌝ }
     {
         if rows.len() < self.store.links() {
             return Err(Refusal::FewRows);

@@ -5,7 +5,7 @@ use lib.ListN.{getD, length}
 use Rattle.std.specs.declared.option.Option.the-variants.{None}
 use Rattle.network.proofs.Rights.{right-of}
 use Rattle.links.specs.Yards.{AllFull}
-use Rattle.step.proofs.Stepping.{readable, plannable, shiftable, after-more, after-small, stepped, built-again, full-on}
+use Rattle.step.proofs.Stepping.{readable, plannable, shiftable, after-more, after-small, advanced, built-again, full-on}
 use Rattle.step.proofs.advance.advance.Needs as need
 
 pub take-caps-requires : need.take-caps-requires
@@ -50,7 +50,7 @@ note-all-requires g c κs = record {
 pub returns : need.returns
 returns g c = record {
   same = c .note-all .ensures .still .same ∙ c .shift .ensures .shifted .same;
-  stepped = stepped (c .args .net .now) (c .args .yard .now) (c .args .clock) (c .pre .built) (c .pre .reached) (c .pre .early)
+  advanced = advanced (c .args .net .now) (c .args .yard .now) (c .args .clock) (c .pre .built) (c .pre .reached) (c .pre .early)
       (g .R·MergeRule .meaning (c .args .rule .now)) (g .R·MergeRule·met .lawful (c .args .rule .now)) (λ i. getD (c .take-caps .last .takes) i 0) (λ i. getD (c .plan .last .outs) i 0) (c .plan .ensures .passes) (c .take-caps .ensures)
       (c .shift .last .yard) (c .shift .ensures .shifted) (c .note-all .last .yard) (c .note-all .ensures .still) (g .R·MergeRule .meaning (c .plan .last .rule)) (c .args .rows .now) (c .note-all .last .rows) (λ i. getD (c .shift .last .times) i None)
       (c .shift .ensures .time) (λ i d l. c .note-all .ensures .written i d (omega (arith, l, c .links .ensures))) (λ i d l. c .note-all .ensures .beyond i d (omega (arith, l, c .links .ensures))) (c .note-all .kept .rows) (c .note-all .ensures .full) (c .plan .ensures .asked);

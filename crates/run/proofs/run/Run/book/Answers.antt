@@ -19,7 +19,7 @@ pub judge-requires : need.judge-requires
 judge-requires c κs = built-of (c .args .self .now)
 
 pub returns-in-Err : need.returns-in-Err
-returns-in-Err c = record { carries = c .in-Err .ensures tt; net = refl; same = refl; kept = refl }
+returns-in-Err c = record { carries = c .in-Err .ensures tt; net = refl; same = refl; area = tt; kept = refl }
 
 pub cast-x : need.cast-x
 cast-x c =
@@ -56,5 +56,6 @@ returns c =
       carries = booked-on (netOf (s .net)) (viewIn s) (c .args .e) (c .args .x) (c .args .count) (c .in-Ok .j) (viewIn s′) (c .in-Ok .ensures tt) (c .queue-up .ensures .queued);
       net = c .queue-up .ensures .net;
       same = c .queue-up .ensures .same;
+      area = (c .in-Ok .j, c .in-Ok .ensures tt .entrance, c .queue-up .ensures .area, c .queue-up .ensures .queued);
       kept = tt;
     }

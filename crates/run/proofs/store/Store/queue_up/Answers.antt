@@ -15,6 +15,7 @@ returns c =
     let few = right-of (s .net) .count in
     record {
       queued = queued (netOf (s .net)) (s .yard) (c .queue-up .last .yard) (s .clock) (c .args .j) (c .args .x) (c .args .n) few (omega (arith, c .pre .link, few)) (c .queue-up .ensures .put);
+      area = record { here = c .queue-up .ensures .spots; others = c .queue-up .ensures .put .spots; beyond = c .queue-up .ensures .put .beyond };
       same = c .queue-up .ensures .put .same;
       built = built-still (netOf (s .net)) (s .yard) (c .queue-up .last .yard) (48 + c .args .j) _ (c .pre .built) (c .queue-up .ensures .put);
       net = refl;
