@@ -1,15 +1,19 @@
 -- Lists of calls with their answers, and the histories that they make.
 use mathlib.Core.Path.{_≡_}
 use mathlib.Core.List.{List, [], _∷_}
-use Prim.Native.Nat.{ℕ, zero, suc}
-use lib.ListN.{getD}
+use mathlib.Core.Logic.{_⊎_}
+use Prim.Native.Nat.{ℕ, zero, suc, _≤_, _<_}
+use lib.ListN.{getD, length}
 use Rattle.merge.specs.Rules.{Meaning}
 use Rattle.network.specs.Net.{Net}
 use Rattle.newell.specs.declared.records.StepRow.{StepRow}
 use Rattle.newell.specs.declared.records.LinkState.{LinkState}
 use Rattle.newell.specs.History.{History, Event, book, step, ask-link, ask-entrance, ask-exit, Reply, told, refused}
-use Rattle.newell.specs.Now.{RunNow, Carries, Ran, Opened, Moment}
+use Rattle.newell.specs.Now.{RunNow, Carries, Opened, Throughout}
+use Rattle.run.specs.Opens.{entriesFor}
 use Rattle.run.specs.Stores.{number}
+use Rattle.run.specs.declared.store.Refusal.{Refusal}
+use Rattle.run.specs.declared.store.Refusal.the-variants.{SmallArea, FewRows}
 use Rattle.script.specs.declared.call.Call.{Call}
 use Rattle.script.specs.declared.call.Call.the-variants.{Book, Step, Link, Entrance, Exit}
 use Rattle.script.specs.declared.call.Answer.{Answer}
@@ -71,3 +75,17 @@ pub data Played (net : Net) (m₀ : Meaning) (rows₀ : List StepRow) (r₀ : Ru
       → Makes m rows m′ rows′ (getD calls n Step) (getD answers n answer.Nothing) event
       → Carries net r event r′
       → Played net m₀ rows₀ r₀ calls answers (suc n) (event ∷ h) m′ rows′ r′
+
+-- What a whole list of calls makes, on a run just opened: each call has its answer, and at each moment (ahead of the first call, between two,
+-- behind the last) the run is equal to the plain run for the calls so far, and the promise holds.
+pub record Promised (net : Net) (m : Meaning) (rows : List StepRow) (calls : List Call) (answers : List Answer) (m′ : Meaning) (rows′ : List StepRow) : Type 0 where
+  pub history : History
+  pub first : RunNow
+  pub last : RunNow
+  pub opened : Opened net first
+  pub played : Played net m rows first calls answers (length calls) history m′ rows′ last
+  pub moments : Throughout net history last
+
+-- why a list is refused: fewer places for answers than calls, else fewer vehicle entries than opening needs
+abbrev pub Declined : Net → (area calls answers : ℕ) → Refusal → Type 0
+Declined net area calls answers q = ((q ≡ FewRows) × (answers < calls)) ⊎ ((q ≡ SmallArea) × (calls ≤ answers) × (area < entriesFor net))
