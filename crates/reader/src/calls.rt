@@ -14,7 +14,7 @@ use rows::Stage;
 use words::Reader;
 
 // A call as the file writes it: a booking, so many steps, or a look at all.
-#[derive(Clone, Copy, Debug, PartialEq)]
+#[derive(Clone, Copy, Debug)]
 pub enum CallRow {
     Book {
         entrance: u16,

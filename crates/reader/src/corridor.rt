@@ -15,7 +15,7 @@ pub struct Corridor {
 }
 
 // Where a row starts: its line from 1, and its place in bytes from 0.
-#[derive(Clone, Copy, Debug, PartialEq)]
+#[derive(Clone, Copy)]
 pub struct RowStart {
     pub line: usize,
     pub place: usize,

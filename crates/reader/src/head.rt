@@ -24,7 +24,7 @@ use rows::Stage;
 use words::Reader;
 
 // Where the reader stands.
-pub fn start_of(reader: &Reader) -> RowStart
+pub(crate) fn start_of(reader: &Reader) -> RowStart
     ensures { λ r. ⌜ r .line ≡ now (reader .entry) .line ⌝ ∗ ⌜ r .place ≡ now (reader .entry) .place ⌝ }
 {
     RowStart {
@@ -48,7 +48,7 @@ fn head_row(reader: &mut Reader, stage: Stage, nodes: u16, links: u16) -> Result
 }
 
 // The counts of the `net` row.
-pub fn read_net(reader: &mut Reader) -> Result<(u16, u16), FileFault>
+pub(crate) fn read_net(reader: &mut Reader) -> Result<(u16, u16), FileFault>
     ensures opens { λ r. ⌜ Opening (now (now (reader .entry) .file)) (now (reader .entry) .line) (now (reader .entry) .place) (now (reader .exit) .line) (now (reader .exit) .place) r ⌝ }
     ensures kept { λ _. ⌜ now (now (reader .exit) .file) ≡ now (now (reader .entry) .file) ⌝ }
 {
@@ -71,7 +71,7 @@ fn link_row(reader: &mut Reader, nodes: u16, links: u16) -> Result<Link, FileFau
 }
 
 // The network of as many `link` rows as are wanted.
-pub fn read_links(reader: &mut Reader, nodes: u16, links: u16) -> Result<Network, FileFault>
+pub(crate) fn read_links(reader: &mut Reader, nodes: u16, links: u16) -> Result<Network, FileFault>
     requires nodes { ⌜ 2 ≤ nodes ⌝ ∗ ⌜ nodes ≤ 32 ⌝ }
     requires links { ⌜ 1 ≤ links ⌝ ∗ ⌜ links ≤ 48 ⌝ }
     ensures goes { λ r. ⌜ Phase (now (now (reader .entry) .file)) (now (reader .entry) .line) (now (reader .entry) .place) AtLinks nodes links (bare (bareNet nodes)) (now (reader .exit) .line) (now (reader .exit) .place) AtRoutes (λ n. bare (netOf n)) r ⌝ }
@@ -93,7 +93,7 @@ pub fn read_links(reader: &mut Reader, nodes: u16, links: u16) -> Result<Network
 }
 
 // The network with its routes, and the rule of the `merge` row.
-pub fn read_routes(
+pub(crate) fn read_routes(
     reader: &mut Reader,
     network: Network,
     nodes: u16,
@@ -115,7 +115,7 @@ pub fn read_routes(
 }
 
 // The meters, and where `go` starts.
-pub fn read_meters(
+pub(crate) fn read_meters(
     reader: &mut Reader,
     network: &Network,
     nodes: u16,

@@ -2,10 +2,10 @@
 pub mod calls;
 pub mod corridor;
 pub mod fault;
-pub mod head;
+mod head;
 pub mod laws;
 pub mod load;
-pub mod take;
+mod take;
 
 pub use calls::CallRow;
 pub use calls::next_row;

@@ -15,7 +15,7 @@ use network::NodeFault;
 use network::RouteFault;
 
 // Takes a link whose numbers are in range.
-pub fn add_link(draft: &mut Draft, link: Link, start: RowStart) -> Result<(), FileFault>
+pub(crate) fn add_link(draft: &mut Draft, link: Link, start: RowStart) -> Result<(), FileFault>
     requires room { ⌜ draftOf (now draft) .links < now draft .wanted ⌝ }
     requires ranged { ⌜ Ranged (draftOf (now draft) .nodes) link ⌝ }
     ensures { λ r. ⌜ TakenLink (now (draft .entry)) link start (now (draft .exit)) r ⌝ }
@@ -30,7 +30,7 @@ pub fn add_link(draft: &mut Draft, link: Link, start: RowStart) -> Result<(), Fi
 }
 
 // The network of the links, all of which are there.
-pub fn close(draft: &Draft, start: RowStart) -> Result<Network, FileFault>
+pub(crate) fn close(draft: &Draft, start: RowStart) -> Result<Network, FileFault>
     requires { ⌜ now draft .wanted ≤ draftOf (now draft) .links ⌝ }
     ensures { λ r. ⌜ Closed (now (draft .entry)) start r ⌝ }
 {
@@ -44,7 +44,7 @@ pub fn close(draft: &Draft, start: RowStart) -> Result<Network, FileFault>
     }
 }
 
-pub fn add_route(
+pub(crate) fn add_route(
     network: &mut Network,
     node: u16,
     exit: u16,
@@ -62,7 +62,7 @@ pub fn add_route(
 }
 
 // Takes a meter whose numbers are in range.
-pub fn add_meter(
+pub(crate) fn add_meter(
     gates: &mut Gates,
     network: &Network,
     node: u16,

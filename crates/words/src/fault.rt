@@ -22,7 +22,7 @@ pub struct Told {
 }
 
 // A fault of a word.
-#[derive(Clone, Copy, Debug, PartialEq)]
+#[derive(Clone, Copy, Debug)]
 pub enum WordFault {
     // a byte that no word has
     Byte { line: usize, place: usize },
