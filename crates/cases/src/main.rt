@@ -1,6 +1,8 @@
 // Corridor files whose answers are fixed, sound and damaged: what each prints is held to the file
 // stdout. They have every refusal that a file can bring at least once, pairs of faults where the order of the checks
 // decides, and the limits of each range.
+#![tactic(auto)]
+
 use session::play_file;
 use std::io;
 

@@ -1,4 +1,6 @@
 // The program: a corridor file from standard input to its printed lines.
+#![tactic(auto)]
+
 use session::play_file;
 use std::io;
 use std::io::Read;

@@ -1,4 +1,6 @@
 // Reads a row: its name, and the words behind it.
+#![tactic(auto)]
+
 pub mod fields;
 pub mod read;
 

@@ -1,4 +1,6 @@
 // The run's one table of link records, over the vehicle area that is lent to it.
+#![tactic(auto)]
+
 mod change;
 mod curve;
 mod fresh;

@@ -1,4 +1,5 @@
 //! How the vehicles that want to pass a merge share its places: merge rules, and a ramp meter over any of them.
+#![tactic(auto)]
 
 pub mod alternate;
 pub mod cases;

@@ -1,4 +1,6 @@
 // The network: links, nodes and their kinds, routes, walks and served pairs.
+#![tactic(auto)]
+
 pub mod draft;
 pub mod kind;
 pub mod layout;

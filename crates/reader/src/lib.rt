@@ -1,4 +1,6 @@
 // Reads a corridor file: its network with the merge rule and the meters, then its calls.
+#![tactic(auto)]
+
 pub mod calls;
 pub mod corridor;
 pub mod fault;

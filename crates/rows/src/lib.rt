@@ -1,4 +1,6 @@
 // The rows of a corridor file: their names, their order, their words and what they say.
+#![tactic(auto)]
+
 pub mod fault;
 pub mod kind;
 pub mod row;

@@ -1,4 +1,6 @@
 // The run: opening, booking, stepping and asking. Every public call takes the plain run on with it.
+#![tactic(auto)]
+
 pub mod calls;
 pub mod open;
 pub mod refusal;

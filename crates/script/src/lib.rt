@@ -1,4 +1,6 @@
 // A whole list of calls on a run, each with a place for its answer.
+#![tactic(auto)]
+
 pub mod call;
 pub mod list;
 pub mod one;

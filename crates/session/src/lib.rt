@@ -1,4 +1,6 @@
 // A whole session: the bytes of a corridor file to printed lines.
+#![tactic(auto)]
+
 mod play;
 mod show;
 

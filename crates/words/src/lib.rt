@@ -1,4 +1,6 @@
 // The words of a corridor file: lines, words and numbers, with their places.
+#![tactic(auto)]
+
 pub mod fault;
 pub mod shape;
 pub mod word;

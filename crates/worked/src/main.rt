@@ -1,5 +1,7 @@
 // The worked corridor as one list of calls, step by step: a main line and a ramp merge into a third
 // link. After each step every link, entrance and exit is asked; some calls are refused.
+#![tactic(auto)]
+
 use merge::Fair;
 use network::{Draft, LINKS, Link, Network};
 use newell::{LinkState, StepRow, Vehicle};
