@@ -7,5 +7,5 @@ pub returns : goal.returns
 returns c =
     let turn = c.args.turn in
     let q = c.args.q in
-    let e : c.zip-counts.result ≡ zip_all turn q = c.zip-counts.ensures ∙ zip_by_numbers turn q in
+    let e : c.zip_counts.result ≡ zip_all turn q = c.zip_counts.ensures ∙ zip_by_numbers turn q in
     record { value = e; law = subst (Zips turn q) (sym e) (zips turn q) }

@@ -4,7 +4,7 @@ use Rattle.merge.proofs.meter.metered_split.Goals as goal
 
 pub returns : goal.returns
 returns g c = record {
-  answers = c.ask-one.ensures.answers;
-  law = held_split (gates_of c.args.rule.now.gates) (g.R.MergeRule.meaning c.args.rule.now.below) c.args.node c.args.q _ c.ask-one.ensures.proper;
-  leaves = c.ask-one.ensures.leaves;
+  answers = c.ask_one.ensures.answers;
+  law = held_split (gates_of c.args.rule.now.gates) (g.R.MergeRule.meaning c.args.rule.now.below) c.args.node c.args.q _ c.ask_one.ensures.proper;
+  leaves = c.ask_one.ensures.leaves;
 }

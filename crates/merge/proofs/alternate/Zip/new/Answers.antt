@@ -5,4 +5,4 @@ use Rattle.merge.proofs.Places.{all_same}
 use Rattle.merge.proofs.alternate.Zip.new.Goals as goal
 
 pub returns : goal.returns
-returns c = ap zip_meaning (ap turns_of c.first-turns.ensures ∙ all_same First)
+returns c = ap zip_meaning (ap turns_of c.first_turns.ensures ∙ all_same First)

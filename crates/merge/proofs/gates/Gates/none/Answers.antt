@@ -4,4 +4,4 @@ use Rattle.merge.proofs.Places.{all_same}
 use Rattle.merge.proofs.gates.Gates.none.Goals as goal
 
 pub returns : goal.returns
-returns c = ap (at_node None) c.no-gates.ensures ∙ all_same None
+returns c = ap (at_node None) c.no_gates.ensures ∙ all_same None

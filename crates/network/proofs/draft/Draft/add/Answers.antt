@@ -18,7 +18,7 @@ pub returns : goal.returns
 returns c =
     let d = c.args.self.now in
     let b = begun_of d in
-    let r = c.in-range.ensures.0 c.if-not-in-range.false in
+    let r = c.in_range.ensures.0 c.if-not-in_range.false in
     (c.if-i-self.false, r, c.if-link.false, more_draws d.layout c.args.link (omega (arith, b.whole, b.wanted_most, c.if-i-self.false)), refl)
 
 pub overflow-cast-self : goal.overflow-cast-self

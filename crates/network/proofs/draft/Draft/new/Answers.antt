@@ -9,4 +9,4 @@ pub invariant-of-result : goal.invariant-of-result
 invariant-of-result c = (∣ subst (λ (l : Layout). Begun l c.args.links) (sym c.empty-layout-layout.ensures) (begun_empty c.args.nodes c.args.links (omega arith) (omega arith) (omega arith) (omega arith)) ∣₁, tt)
 
 pub returns : goal.returns
-returns c = (ap drawn c.empty-layout-layout.ensures ∙ empty_draws c.args.nodes, refl)
+returns c = (ap drawn c.empty_layout-layout.ensures ∙ empty_draws c.args.nodes, refl)

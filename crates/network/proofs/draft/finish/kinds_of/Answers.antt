@@ -10,7 +10,7 @@ returns-then-not-is-kind c =
 
 pub loop-n-preserved : goal.loop-n-preserved
 loop-n-preserved c = (
-  length-set c.loop-n.kinds c.loop-n.n c.kind-of-kind.result ∙ c.loop-n.invariant.0,
-  more_kinds (drawn c.args.layout.now) c.loop-n.n c.loop-n.kinds c.kind-of-kind.result c.loop-n.invariant.0 (omega (arith, c.requires.nodes)) c.loop-n.invariant.1
-      (some_kind (drawn c.args.layout.now) c.loop-n.n c.kind-of-kind.result c.kind-of-kind.ensures (sym c.if-not-is-kind.ensures)),
+  length-set c.loop-n.kinds c.loop-n.n c.kind_of-kind.result ∙ c.loop-n.invariant.0,
+  more_kinds (drawn c.args.layout.now) c.loop-n.n c.loop-n.kinds c.kind_of-kind.result c.loop-n.invariant.0 (omega (arith, c.requires.nodes)) c.loop-n.invariant.1
+      (some_kind (drawn c.args.layout.now) c.loop-n.n c.kind_of-kind.result c.kind_of-kind.ensures (sym c.if-not-is_kind.ensures)),
 )
