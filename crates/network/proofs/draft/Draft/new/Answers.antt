@@ -5,8 +5,8 @@ use Rattle.network.specs.Begun.{Begun}
 use Rattle.network.proofs.Growing.{begun_empty, empty_draws}
 use Rattle.network.proofs.draft.Draft.new.Goals as goal
 
-pub invariant-of-result : goal.invariant-of-result
-invariant-of-result c = (∣ subst (λ (l : Layout). Begun l c.args.links) (sym c.empty-layout-layout.ensures) (begun_empty c.args.nodes c.args.links (omega arith) (omega arith) (omega arith) (omega arith)) ∣₁, tt)
+pub invariant_of-result : goal.invariant_of-result
+invariant_of-result c = record { begun = ∣ subst (λ (l : Layout). Begun l c.args.links) (sym c.empty_layout-layout.ensures) (begun_empty c.args.nodes c.args.links (omega arith) (omega arith) (omega arith) (omega arith)) ∣₁ }
 
 pub returns : goal.returns
 returns c = (ap drawn c.empty_layout-layout.ensures ∙ empty_draws c.args.nodes, refl)

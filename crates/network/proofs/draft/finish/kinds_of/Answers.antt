@@ -4,9 +4,9 @@ use Rattle.network.specs.Layouts.{drawn}
 use Rattle.network.proofs.Finishing.{some_kind, lowest, more_kinds}
 use Rattle.network.proofs.draft.finish.kinds_of.Goals as goal
 
-pub returns-then-not-is-kind : goal.returns-then-not-is-kind
-returns-then-not-is-kind c =
-    lowest (drawn c.args.layout.now) c.loop-n.n c.loop-n.kinds c.kind-of-kind.result c.loop-n.invariant.1 (omega arith) (omega arith) c.kind-of-kind.ensures (sym c.if-not-is-kind.ensures)
+pub returns-then-not-is_kind : goal.returns-then-not-is_kind
+returns-then-not-is_kind c =
+    lowest (drawn c.args.layout.now) c.loop-n.n c.loop-n.kinds c.kind_of-kind.result c.loop-n.invariant.1 (omega arith) (omega arith) c.kind_of-kind.ensures (sym c.if-not-is_kind.ensures)
 
 pub loop-n-preserved : goal.loop-n-preserved
 loop-n-preserved c = (

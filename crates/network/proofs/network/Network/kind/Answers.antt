@@ -4,8 +4,8 @@ use Rattle.network.proofs.Rights.{right_of}
 use Rattle.network.proofs.Sorts.{kind_inside}
 use Rattle.network.proofs.network.Network.kind.Goals as goal
 
-pub offset-bounds-self-n : goal.offset-bounds-self-n
-offset-bounds-self-n c = omega (arith, (right_of c.args.self.now).nodes)
+pub offset_bounds-self-n : goal.offset_bounds-self-n
+offset_bounds-self-n c = omega (arith, (right_of c.args.self.now).nodes)
 
 pub bounds-self-n : goal.bounds-self-n
 bounds-self-n c = omega (arith, (right_of c.args.self.now).nodes)
