@@ -122,7 +122,7 @@ longest_walk_there net sound = most net.nodes (served_bound net sound)
           where
             less : (e x n : ℕ) → Served net e x n → (n ≡ suc k) ⊎ (n ≡ suc k → ⊥) → n ≤ k
             less e x n s (inl z) = let p = off₁ net e s.0 [] s.1.1 in let l = sound.link s.0 p.0 in
-                absurd (f e (omega (arith, p.1, l.upward, l.to-node)) (x, omega (arith, walk_end net sound x s.2 p.0), subst (Served net e x) z s))
+                absurd (f e (omega (arith, p.1, l.upward, l.to_node)) (x, omega (arith, walk_end net sound x s.2 p.0), subst (Served net e x) z s))
             less e x n s (inr z) = omega (arith, b e x n s)
 
 greater : (a b : ℕ) → (w : ℕ) × (a ≤ w) × (b ≤ w) × ((w ≡ a) ⊎ (w ≡ b))
