@@ -10,15 +10,15 @@ use Rattle.fields.specs.Taking.{want, numbered}
 use Rattle.fields.proofs.Series.{Going, going_start, going_more, going_on, going_bad, going_done, wanted, wanted_so_far}
 use Rattle.fields.proofs.fields.numbers.Goals as goal
 
-pub number-in-requires : goal.number-in-requires
-number-in-requires c =
+pub number_in-requires : goal.number_in-requires
+number_in-requires c =
     let g = c.loop-i.invariant.3 in
     let in' = going_more _ _ _ _ _ _ _ g (omega (arith, length-map c.args.ranges.now want)) in
     subst (λ (f : List ℕ). end_at f c.loop-i.words.place < length f) (sym c.loop-i.invariant.0) (omega (arith, g.at in', c.requires.within.fed))
 
 pub loop-i-preserved : goal.loop-i-preserved
 loop-i-preserved c =
-    let told = c.in-ok-out.ensures in (
+    let told = c.in_ok-out.ensures in (
       told.kept.0 ∙ c.loop-i.invariant.0,
       told.kept.1 ∙ c.loop-i.invariant.1,
       length-set c.loop-i.out c.loop-i.i _ ∙ c.loop-i.invariant.2,
@@ -26,21 +26,21 @@ loop-i-preserved c =
           (wanted c.args.ranges.now c.loop-i.i _ c.loop-i-test.true) refl
           (wanted_so_far c.args.ranges.now c.loop-i.i _ c.loop-i-test.true)
           (omega (arith, length-map c.args.ranges.now want)) (omega (arith, c.loop-i.invariant.2, c.requires.few))
-          (subst (λ (f : List ℕ). Taken f c.loop-i.words.place c.number-in.new.words.place told.got.word) c.loop-i.invariant.0 told.got.taken)
+          (subst (λ (f : List ℕ). Taken f c.loop-i.words.place c.number_in.new.words.place told.got.word) c.loop-i.invariant.0 told.got.taken)
           told.got.is.0 told.got.is.1,
     )
 
 pub loop-i-init : goal.loop-i-init
 loop-i-init c = (refl, refl, refl, going_start _ _ _ (map want c.args.ranges.now) _ c.requires.within.at (c.requires.counted ∙ sym (length-map c.args.ranges.now want)))
 
-pub returns-in-err-out : goal.returns-in-err-out
-returns-in-err-out c =
-    let told = c.in-err-out.ensures in
-    let p = err_from_is_err_and c.from-residual.result c.from-residual.ensures.1 in
+pub returns-in_err-out : goal.returns-in_err-out
+returns-in_err-out c =
+    let told = c.in_err-out.ensures in
+    let p = err_from_is_err_and c.from_residual.result c.from_residual.ensures.1 in
     let bad = going_bad _ _ _ (map want c.args.ranges.now) (drop (c.loop-i.i + 1) (map want c.args.ranges.now)) _ c.loop-i.i c.loop-i.out _ _ told.got.word c.loop-i.invariant.3
     (wanted c.args.ranges.now c.loop-i.i _ c.loop-i-test.true)
     (omega (arith, length-map c.args.ranges.now want))
-    (subst (λ (f : List ℕ). Taken f c.loop-i.words.place c.number-in.new.words.place told.got.word) c.loop-i.invariant.0 told.got.taken)
+    (subst (λ (f : List ℕ). Taken f c.loop-i.words.place c.number_in.new.words.place told.got.word) c.loop-i.invariant.0 told.got.taken)
     told.got.is.1 in
     rw (p.1, p.2) (told.got.word.place, told.got.is.0 ∙ ap (λ l. Value l told.got.word.place) c.loop-i.invariant.1, bad)
 

@@ -11,8 +11,8 @@ use Rattle.flow.proofs.pass.pass_one.Goals as goal
 pub take-requires : goal.take-requires
 take-requires c = record { here = omega (arith, c.requires.link, (right_of c.args.net.now).count); laid = c.requires.laid }
 
-pub go-on-requires : goal.go-on-requires
-go-on-requires c =
+pub go_on-requires : goal.go_on-requires
+go_on-requires c =
     let net = net_of c.args.net.now in
     let y = c.args.yard.now in
     let v = c.in-Some.v in
@@ -35,6 +35,6 @@ returns-in-Some c =
     let y = c.args.yard.now in
     let v = c.in-Some.v in
     let e = c.in-Some.ensures.told in
-    sent_one net c.args.t c.args.i y c.take.new.self c.go-on.new.yard v (omega (arith, c.requires.link, (right_of c.args.net.now).count)) e c.in-Some.ensures.put c.in-Some.ensures.spots
-    (gone_of net c.args.t c.args.i v.exit c.take.new.self c.go-on.new.yard (next net c.args.i v.exit) refl c.in-Some.ensures.put.laid c.go-on.ensures)
+    sent_one net c.args.t c.args.i y c.take.new.self c.go_on.new.yard v (omega (arith, c.requires.link, (right_of c.args.net.now).count)) e c.in-Some.ensures.put c.in-Some.ensures.spots
+    (gone_of net c.args.t c.args.i v.exit c.take.new.self c.go_on.new.yard (next net c.args.i v.exit) refl c.in-Some.ensures.put.laid c.go_on.ensures)
     (λ f. (c.requires.room c.args.i f).1 refl)

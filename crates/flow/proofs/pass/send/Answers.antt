@@ -11,8 +11,8 @@ use Rattle.flow.proofs.pass.send.Goals as goal
 pub loop-m-init : goal.loop-m-init
 loop-m-init c = sent_none (net_of c.args.net.now) c.args.t c.args.i c.args.yard.now c.requires.laid
 
-pub pass-one-requires : goal.pass-one-requires
-pass-one-requires c =
+pub pass_one-requires : goal.pass_one-requires
+pass_one-requires c =
     let net = net_of c.args.net.now in
     let t = c.args.t in
     let i = c.args.i in
@@ -46,10 +46,10 @@ loop-m-preserved c =
     let y₁ = c.loop-m.yard in
     let s = c.loop-m.invariant in
     let low : m < n = omega arith in
-    sent_again net t i y y₁ m n low c.requires.enough s c.pass-one.new.yard c.pass-one.ensures
+    sent_again net t i y y₁ m n low c.requires.enough s c.pass_one.new.yard c.pass_one.ensures
 
-pub last-time-last-requires : goal.last-time-last-requires
-last-time-last-requires c = record {
+pub last_time-last-requires : goal.last_time-last-requires
+last_time-last-requires c = record {
   link = omega (arith, c.requires.link, (right_of c.args.net.now).count);
   laid = c.requires.laid;
   early = c.requires.early;
@@ -65,5 +65,5 @@ returns c =
     let e : c.loop-m.m ≡ c.args.n = search rules in
     record {
       sent = subst (λ k. Sent net c.args.t i (take k (holds y i)) y c.loop-m.yard) e c.loop-m.invariant;
-      time = c.last-time-last.ensures ∙ last_is net c.args.t i (holds y i) c.args.n c.requires.enough;
+      time = c.last_time-last.ensures ∙ last_is net c.args.t i (holds y i) c.args.n c.requires.enough;
     }

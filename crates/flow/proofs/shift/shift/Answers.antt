@@ -8,8 +8,8 @@ use Rattle.flow.specs.Flows.{PulledAll}
 use Rattle.flow.proofs.Shifting.{sendable, shifted, times_kept}
 use Rattle.flow.proofs.shift.shift.Goals as goal
 
-pub pull-all-requires : goal.pull-all-requires
-pull-all-requires c =
+pub pull_all-requires : goal.pull_all-requires
+pull_all-requires c =
     let e = c.links.ensures in
     record {
       few = omega (arith, e, (right_of c.args.net.now).count);
@@ -19,14 +19,14 @@ pull-all-requires c =
       room = λ j l. omega (arith, c.requires.shiftable.room j (subst (λ n. j < n) e l));
     }
 
-pub send-all-requires : goal.send-all-requires
-send-all-requires c =
+pub send_all-requires : goal.send_all-requires
+send_all-requires c =
     let n = c.args.net.now in
     let y = c.args.yard.now in
-    let y₁ = c.pull-all.new.yard in
+    let y₁ = c.pull_all.new.yard in
     let r : ℕ → ℕ = λ i. get_or c.args.takes.now i 0 in
     let k : ℕ → ℕ = λ i. get_or c.args.outs.now i 0 in
-    let p : PulledAll c.args.t r (net_of n).links y y₁ = subst (λ m. PulledAll c.args.t r m y y₁) c.links.ensures c.pull-all.ensures in
+    let p : PulledAll c.args.t r (net_of n).links y y₁ = subst (λ m. PulledAll c.args.t r m y y₁) c.links.ensures c.pull_all.ensures in
     record {
       early = c.requires.early;
       outs = c.requires.outs;
@@ -39,14 +39,14 @@ pub returns : goal.returns
 returns c =
     let n = c.args.net.now in
     let y = c.args.yard.now in
-    let y₁ = c.pull-all.new.yard in
+    let y₁ = c.pull_all.new.yard in
     let r : ℕ → ℕ = λ i. get_or c.args.takes.now i 0 in
     let k : ℕ → ℕ = λ i. get_or c.args.outs.now i 0 in
-    let p : PulledAll c.args.t r (net_of n).links y y₁ = subst (λ m. PulledAll c.args.t r m y y₁) c.links.ensures c.pull-all.ensures in
+    let p : PulledAll c.args.t r (net_of n).links y y₁ = subst (λ m. PulledAll c.args.t r m y y₁) c.links.ensures c.pull_all.ensures in
     record {
       shifted = shifted (net_of n) c.args.t r k y y₁ (right_of n).count c.requires.shiftable p
-          (λ i x j l e. (next_in n.layout (right_of n) i l x j e).0) (λ l h. fits y₁ l h p.laid) c.send-all.new.yard c.send-all.ensures.sent;
-      time = λ i l. c.send-all.ensures.time i l ∙ times_kept (net_of n) c.args.t r k y y₁ (right_of n).count c.requires.shiftable p
+          (λ i x j l e. (next_in n.layout (right_of n) i l x j e).0) (λ l h. fits y₁ l h p.laid) c.send_all.new.yard c.send_all.ensures.sent;
+      time = λ i l. c.send_all.ensures.time i l ∙ times_kept (net_of n) c.args.t r k y y₁ (right_of n).count c.requires.shiftable p
           (λ i x j l e. (next_in n.layout (right_of n) i l x j e).0) (λ l h. fits y₁ l h p.laid) i l;
-      beyond = c.send-all.ensures.beyond;
+      beyond = c.send_all.ensures.beyond;
     }

@@ -2,8 +2,8 @@ use Rattle.std.proofs.Common.{arith}
 use Rattle.plan.proofs.Facts.{place, sound}
 use Rattle.plan.proofs.caps.may_take.Goals as goal
 
-pub overflow-sub-link : goal.overflow-sub-link
-overflow-sub-link c = (sound c.args.net.now c.args.i c.requires.here c.link-link.result c.link-link.ensures).wave_least
+pub overflow_sub-link : goal.overflow_sub-link
+overflow_sub-link c = (sound c.args.net.now c.args.i c.requires.here c.link-link.result c.link-link.ensures).wave_least
 
 pub off-requires : goal.off-requires
 off-requires c =

@@ -22,8 +22,8 @@ loop-n-preserved g c =
     let m = g.R.MergeRule.meaning c.args.rule.now in
     let m₁ = g.R.MergeRule.meaning c.loop-n.rule in
     let v = c.loop-n.invariant in (
-      passes_again net r m m₁ c.loop-n.n v.1 (λ i. get_or c.loop-n.outs i 0) (λ i. get_or c.plan-node.new.outs i 0) c.plan-node.ensures.others v.0 c.plan-node.ensures.passes,
-      below_again net r m m₁ c.loop-n.n v.1 (g.R.MergeRule.meaning c.plan-node.new.rule) c.plan-node.ensures.asked,
+      passes_again net r m m₁ c.loop-n.n v.1 (λ i. get_or c.loop-n.outs i 0) (λ i. get_or c.plan_node.new.outs i 0) c.plan_node.ensures.others v.0 c.plan_node.ensures.passes,
+      below_again net r m m₁ c.loop-n.n v.1 (g.R.MergeRule.meaning c.plan_node.new.rule) c.plan_node.ensures.asked,
     )
 
 pub returns : goal.returns
@@ -38,5 +38,5 @@ returns g c =
       asked = asked_all net r m (g.R.MergeRule.meaning c.loop-n.rule) c.loop-n.n (λ i h. omega (arith, (w.link i h).to_node)) v.1;
     }
 
-pub overflow-add-n-end : goal.overflow-add-n-end
-overflow-add-n-end g c = omega (arith, (right_of c.args.net.now).nodes, c.nodes-n-end.ensures)
+pub overflow_add-n-end : goal.overflow_add-n-end
+overflow_add-n-end g c = omega (arith, (right_of c.args.net.now).nodes, c.nodes-n-end.ensures)

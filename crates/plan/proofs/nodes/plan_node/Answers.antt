@@ -18,8 +18,8 @@ returns-in-Exit g c =
     let k = c.in-Exit.ensures.is in
     let l : i < length c.args.outs.now = omega (arith, c.in-Exit.ensures.inside, c.requires.outs) in
     record {
-      passes = passes_exit net r m (λ q. get_or (set c.args.outs.now i c.may-send.result) q 0) n i k.0 k.1 (put_same c.args.outs.now i c.may-send.result l ∙ c.may-send.ensures);
-      others = put_other net n c.args.outs.now i c.may-send.result (in₁ net n i [] k.0).1;
+      passes = passes_exit net r m (λ q. get_or (set c.args.outs.now i c.may_send.result) q 0) n i k.0 k.1 (put_same c.args.outs.now i c.may_send.result l ∙ c.may_send.ensures);
+      others = put_other net n c.args.outs.now i c.may_send.result (in₁ net n i [] k.0).1;
       asked = asked_one net r n m i k.0;
     }
 
@@ -34,7 +34,7 @@ returns-in-Mainline g c =
     let l : i < length c.args.outs.now = omega (arith, c.in-Mainline.ensures.inside.0, c.requires.outs) in
     let x = c.min.result in
     record {
-      passes = passes_mainline net r m (λ q. get_or (set c.args.outs.now i x) q 0) n i c.in-Mainline.j k.0 k.1 (put_same c.args.outs.now i x l ∙ omega (arith, c.min.ensures, c.may-send-in-Mainline.ensures, c.may-take.ensures));
+      passes = passes_mainline net r m (λ q. get_or (set c.args.outs.now i x) q 0) n i c.in-Mainline.j k.0 k.1 (put_same c.args.outs.now i x l ∙ omega (arith, c.min.ensures, c.may_send-in-Mainline.ensures, c.may_take.ensures));
       others = put_other net n c.args.outs.now i x (in₁ net n i [] k.0).1;
       asked = asked_one net r n m i k.0;
     }
@@ -50,16 +50,16 @@ returns-in-Merge g c =
     let j = c.in-Merge.j in
     let k = c.in-Merge.ensures.is in
     let o = c.args.outs.now in
-    let a = c.ask-merge-a.result.0 in
-    let b = c.ask-merge-a.result.1 in
+    let a = c.ask_merge-a.result.0 in
+    let b = c.ask_merge-a.result.1 in
     let l : i < length o = omega (arith, c.in-Merge.ensures.inside.0, c.requires.outs) in
     let l' : i' < length o = omega (arith, c.in-Merge.ensures.inside.1, c.requires.outs) in
     record {
       passes = passes_merge net r m (λ q. get_or (set (set o i a) i' b) q 0) n i i' j k.0 k.1
-          (put_first net n o i i' a b k.0 l ∙ ap (λ (p : ℕ × ℕ). p.0) c.ask-merge-a.ensures.said)
-          (put_second o i i' a b l' ∙ ap (λ (p : ℕ × ℕ). p.1) c.ask-merge-a.ensures.said);
+          (put_first net n o i i' a b k.0 l ∙ ap (λ (p : ℕ × ℕ). p.0) c.ask_merge-a.ensures.said)
+          (put_second o i i' a b l' ∙ ap (λ (p : ℕ × ℕ). p.1) c.ask_merge-a.ensures.said);
       others = λ q ne. put_other net n (set o i a) i' b (in₂ net n i i' [] k.0).1 q ne ∙ put_other net n o i a (in₁ net n i (i' ∷ []) k.0).1 q ne;
-      asked = asked_merge net r n m i i' j _ k.0 k.1 c.ask-merge-a.ensures.left;
+      asked = asked_merge net r n m i i' j _ k.0 k.1 c.ask_merge-a.ensures.left;
     }
 
 pub returns-in-Diverge : goal.returns-in-Diverge
@@ -80,16 +80,16 @@ returns-in-Diverge g c =
       asked = asked_one net r n m i k.0;
     }
 
-pub may-send-requires : goal.may-send-requires
-may-send-requires g c = let p = c.requires.plannable in let h = c.in-Exit.ensures.inside in record { here = h; full = p.full; safe = p.safe c.in-Exit.i h }
+pub may_send-requires : goal.may_send-requires
+may_send-requires g c = let p = c.requires.plannable in let h = c.in-Exit.ensures.inside in record { here = h; full = p.full; safe = p.safe c.in-Exit.i h }
 
-pub may-send-requires-in-Mainline : goal.may-send-requires-in-Mainline
-may-send-requires-in-Mainline g c = let p = c.requires.plannable in let h = c.in-Mainline.ensures.inside.0 in record { here = h; full = p.full; safe = p.safe c.in-Mainline.i h }
+pub may_send-requires-in-Mainline : goal.may_send-requires-in-Mainline
+may_send-requires-in-Mainline g c = let p = c.requires.plannable in let h = c.in-Mainline.ensures.inside.0 in record { here = h; full = p.full; safe = p.safe c.in-Mainline.i h }
 
-pub may-take-requires : goal.may-take-requires
-may-take-requires g c = let p = c.requires.plannable in let h = c.in-Mainline.ensures.inside.1 in record { here = h; full = p.full; safe = p.safe c.in-Mainline.j h }
+pub may_take-requires : goal.may_take-requires
+may_take-requires g c = let p = c.requires.plannable in let h = c.in-Mainline.ensures.inside.1 in record { here = h; full = p.full; safe = p.safe c.in-Mainline.j h }
 
-pub ask-merge-a-requires : goal.ask-merge-a-requires
-ask-merge-a-requires g c =
+pub ask_merge-a-requires : goal.ask_merge-a-requires
+ask_merge-a-requires g c =
     let h = c.in-Merge.ensures.inside in
     record { plannable = c.requires.plannable; first = h.0; second = h.1; to = h.2; node = omega (arith, c.requires.most, (right_of c.args.net.now).nodes) }

@@ -8,23 +8,23 @@ use Rattle.step.proofs.note.note_all.Goals as goal
 pub loop-i-init : goal.loop-i-init
 loop-i-init c = (c.requires.full, (λ k l d. absurd (omega arith)), (λ k l. refl), (λ k l d. refl), still_none c.args.yard.now)
 
-pub count-on-it-requires : goal.count-on-it-requires
-count-on-it-requires c = record { here = omega (arith, c.requires.few); laid = c.loop-i.invariant.4.laid c.requires.laid }
+pub count-on_it-requires : goal.count-on_it-requires
+count-on_it-requires c = record { here = omega (arith, c.requires.few); laid = c.loop-i.invariant.4.laid c.requires.laid }
 
-pub overflow-cast-on-it : goal.overflow-cast-on-it
-overflow-cast-on-it c =
+pub overflow_cast-on_it : goal.overflow_cast-on_it
+overflow_cast-on_it c =
     let s = c.requires.small c.loop-i.i (omega arith) in
-    omega (arith, s.0, c.count-on-it.ensures, ap length (c.loop-i.invariant.4.holds c.loop-i.i))
+    omega (arith, s.0, c.count-on_it.ensures, ap length (c.loop-i.invariant.4.holds c.loop-i.i))
 
-pub note-one-requires : goal.note-one-requires
-note-one-requires c =
+pub note_one-requires : goal.note_one-requires
+note_one-requires c =
     let i = c.loop-i.i in
     let v = c.loop-i.invariant in
     let y₀ = c.args.yard.now in
     let l : i < c.args.count = omega arith in
     let s = c.requires.small i l in
     let m = c.requires.more i l in
-    let n : c.count-on-it.result ≡ length (holds y₀ i) = c.count-on-it.ensures ∙ ap length (v.4.holds i) in
+    let n : c.count-on_it.result ≡ length (holds y₀ i) = c.count-on_it.ensures ∙ ap length (v.4.holds i) in
     let o = off_same y₀ c.loop-i.yard i 0 (v.2 i (omega arith)) in
     let u = on_same y₀ c.loop-i.yard i 0 (v.2 i (omega arith)) in
     record { here = omega (arith, c.requires.few); full = v.0; small = omega (arith, s.1, n, o); more = omega (arith, m, n, o, u) }
@@ -33,14 +33,14 @@ pub loop-i-preserved : goal.loop-i-preserved
 loop-i-preserved c =
     let i = c.loop-i.i in
     let v = c.loop-i.invariant in
-    let e = c.note-one.ensures in
+    let e = c.note_one.ensures in
     let y₀ = c.args.yard.now in (
       e.full,
-      note_more y₀ c.loop-i.yard c.note-one.new.yard i c.args.outs.now c.args.times.now c.loop-i.rows c.note-one.result c.count-on-it.result
-          (omega (arith, c.requires.rows, c.loop-i.auto.rows)) (c.count-on-it.ensures ∙ ap length (v.4.holds i)) (v.2 i (omega arith)) e.written e.others v.1,
+      note_more y₀ c.loop-i.yard c.note_one.new.yard i c.args.outs.now c.args.times.now c.loop-i.rows c.note_one.result c.count-on_it.result
+          (omega (arith, c.requires.rows, c.loop-i.auto.rows)) (c.count-on_it.ensures ∙ ap length (v.4.holds i)) (v.2 i (omega arith)) e.written e.others v.1,
       (λ k l. e.others k (let ne : k ≢ i = omega arith in ne) ∙ v.2 k (omega arith)),
-      (λ k l d. get_or-set_other c.loop-i.rows i k c.note-one.result d (let ne : k ≢ i = omega arith in ne) ∙ v.3 k (omega arith) d),
-      still_more y₀ c.loop-i.yard c.note-one.new.yard v.4 e.still,
+      (λ k l d. get_or-set_other c.loop-i.rows i k c.note_one.result d (let ne : k ≢ i = omega arith in ne) ∙ v.3 k (omega arith) d),
+      still_more y₀ c.loop-i.yard c.note_one.new.yard v.4 e.still,
     )
 
 pub returns : goal.returns
