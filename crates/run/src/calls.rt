@@ -2,7 +2,7 @@
 ghost use Rattle.std.specs.Prelude.{◌≡◌, ℕ, ◌+◌, ◌<◌, ◌≤◌, true, false, ◌⊎◌, length};
 ghost use Rattle.links.specs.Yards.{holds, size_of};
 ghost use Rattle.network.specs.Nets.{net_of};
-ghost use Rattle.newell.specs.History.{ask_entrance as asking-in, ask_exit as asking-out};
+ghost use Rattle.newell.specs.History.{ask_entrance as asking_in, ask_exit as asking_out};
 ghost use Rattle.newell.specs.Now.{Reached, Queued, state_now, Carries};
 ghost use Rattle.step.specs.Steps.{Advanced};
 ghost use Rattle.run.specs.Stores.{view_in, BuiltIn, Judged, StepJudged, EntranceTold, ExitTold, AreaBooked, answer_of};
@@ -139,7 +139,7 @@ impl<'a> Store<'a> {
     pub fn waiting(&self, e: u16) -> Result<usize, Refusal>
         requires { BuiltIn self.now }
         ensures told { EntranceTold (net_of self.now.net) (view_in self.now) e result }
-        ensures carries { Carries (net_of self.now.net) (view_in self.now) (asking-in e (answer_of result)) (view_in self.now) }
+        ensures carries { Carries (net_of self.now.net) (view_in self.now) (asking_in e (answer_of result)) (view_in self.now) }
     {
         match self.net.entrance(e as usize) {
             None => Err(Refusal::NoEntrance),
@@ -151,7 +151,7 @@ impl<'a> Store<'a> {
     pub fn gone(&self, x: u16) -> Result<u32, Refusal>
         requires { BuiltIn self.now }
         ensures told { ExitTold (net_of self.now.net) (view_in self.now) x result }
-        ensures carries { Carries (net_of self.now.net) (view_in self.now) (asking-out x (answer_of result)) (view_in self.now) }
+        ensures carries { Carries (net_of self.now.net) (view_in self.now) (asking_out x (answer_of result)) (view_in self.now) }
     {
         match self.net.exit(x as usize) {
             None => Err(Refusal::NoExit),

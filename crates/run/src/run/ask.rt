@@ -1,7 +1,7 @@
 // The three questions.
 ghost use Rattle.std.specs.Prelude.{◌≡◌};
 ghost use Rattle.network.specs.Nets.{net_of};
-ghost use Rattle.newell.specs.History.{ask_link as asking, ask_entrance as asking-in, ask_exit as asking-out};
+ghost use Rattle.newell.specs.History.{ask_link as asking, ask_entrance as asking_in, ask_exit as asking_out};
 ghost use Rattle.newell.specs.Now.{Carries};
 ghost use Rattle.run.specs.Stores.{view_in, answer_of, LinkTold, EntranceTold, ExitTold};
 
@@ -32,7 +32,7 @@ impl<'a> Run<'a> {
     // How many wait at the entrance `e`.
     pub fn ask_entrance(&self, e: u16) -> Result<usize, Refusal>
         ensures told { EntranceTold (net_of self.now.store.net) (view_in self.now.store) e result }
-        ensures carries { Carries (net_of self.now.store.net) (view_in self.now.store) (asking-in e (answer_of result)) (view_in self.now.store) }
+        ensures carries { Carries (net_of self.now.store.net) (view_in self.now.store) (asking_in e (answer_of result)) (view_in self.now.store) }
     {
         self.store.waiting(e)
     }
@@ -40,7 +40,7 @@ impl<'a> Run<'a> {
     // How many are gone at the exit `x`.
     pub fn ask_exit(&self, x: u16) -> Result<u32, Refusal>
         ensures told { ExitTold (net_of self.now.store.net) (view_in self.now.store) x result }
-        ensures carries { Carries (net_of self.now.store.net) (view_in self.now.store) (asking-out x (answer_of result)) (view_in self.now.store) }
+        ensures carries { Carries (net_of self.now.store.net) (view_in self.now.store) (asking_out x (answer_of result)) (view_in self.now.store) }
     {
         self.store.gone(x)
     }

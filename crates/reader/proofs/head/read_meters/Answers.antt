@@ -17,21 +17,21 @@ loop-node-init c =
     let a = c.args.reader.now in
     (refl, λ l₀ p₀ rule g. got_as a.file.now l₀ p₀ a.line a.place Meters c.args.nodes c.args.links _ _ (λ i. said (net_of c.args.network.now) rule (λ n. numbers_of (sym c.none-gates.ensures i n))) g)
 
-pub add-meter-requires : goal.add-meter-requires
-add-meter-requires c =
-    let told = c.in-ok-node.ensures in
+pub add_meter-requires : goal.add_meter-requires
+add_meter-requires c =
+    let told = c.in_ok-node.ensures in
     let a = c.in-Meter in
     let h = meter_ranges c.args.nodes c.args.links a.node a.rate a.period c.requires (subst (λ (r : Row). Ranged c.args.nodes c.args.links r) a.is told.next.0.ranged) in
     record { node = h.0; rate = h.1.0; period = h.1.1 }
 
-pub returns-in-err-node : goal.returns-in-err-node
-returns-in-err-node c =
-    let told = c.in-err-node.ensures in
-    let t = file_told c.in-err-node.field-0.0 in
+pub returns-in_err-node : goal.returns-in_err-node
+returns-in_err-node c =
+    let told = c.in_err-node.ensures in
+    let t = file_told c.in_err-node.field-0.0 in
     let l = c.loop-node.reader.line in
     let p = c.loop-node.reader.place in
     let same = c.loop-node.invariant.0 in
-    let r = err_from_is_err_and c.from-residual.result c.from-residual.ensures.1 in
+    let r = err_from_is_err_and c.from_residual.result c.from_residual.ensures.1 in
     rw (r.1, r.2) (record {
       goes = λ l₀ p₀ rule g. refused_line _ l₀ p₀ l p Meters c.args.nodes c.args.links _ (c.loop-node.invariant.1 l₀ p₀ rule g) not_meters t (subst (λ (x : List ℕ). NoRow x p l Meters c.args.nodes c.args.links t) same told.next);
       kept = told.kept ∙ same;
@@ -39,43 +39,43 @@ returns-in-err-node c =
 
 pub loop-node-smaller : goal.loop-node-smaller
 loop-node-smaller c =
-    let told = c.in-ok-node.ensures in
-    falls _ c.head-row.new.reader.file.now c.loop-node.reader.place c.head-row.new.reader.place c.in-ok-node.field-0 (told.kept ∙ c.loop-node.invariant.0) c.head-row.new.reader.inside told.next.1
+    let told = c.in_ok-node.ensures in
+    falls _ c.head_row.new.reader.file.now c.loop-node.reader.place c.head_row.new.reader.place c.in_ok-node.field-0 (told.kept ∙ c.loop-node.invariant.0) c.head_row.new.reader.inside told.next.1
 
 pub loop-node-preserved : goal.loop-node-preserved
 loop-node-preserved c =
-    let told = c.in-ok-node.ensures in
-    let took = c.in-ok-add-meter.ensures in
+    let told = c.in_ok-node.ensures in
+    let took = c.in_ok-add_meter-in-Meter.ensures in
     let a = c.in-Meter in
     let same = c.loop-node.invariant.0 in
-    let step = step_as _ _ c.loop-node.reader.place c.loop-node.reader.line Meters c.args.nodes c.args.links (Meter a.node a.rate a.period) c.in-ok-node.field-0 _ _ same a.is told.next in (
+    let step = step_as _ _ c.loop-node.reader.place c.loop-node.reader.line Meters c.args.nodes c.args.links (Meter a.node a.rate a.period) c.in_ok-node.field-0 _ _ same a.is told.next in (
       told.kept ∙ same,
-      λ l₀ p₀ rule g. meter_on _ l₀ p₀ c.loop-node.reader.line c.loop-node.reader.place c.args.nodes c.args.links c.args.network.now rule c.loop-node.gates (c.loop-node.invariant.1 l₀ p₀ rule g) a.node a.rate a.period step.0 _ _ c.add-meter.new.gates took.0 took.1 took.2 step.1 step.2,
+      λ l₀ p₀ rule g. meter_on _ l₀ p₀ c.loop-node.reader.line c.loop-node.reader.place c.args.nodes c.args.links c.args.network.now rule c.loop-node.gates (c.loop-node.invariant.1 l₀ p₀ rule g) a.node a.rate a.period step.0 _ _ c.add_meter.new.gates took.0 took.1 took.2 step.1 step.2,
     )
 
-pub returns-in-err-add-meter : goal.returns-in-err-add-meter
-returns-in-err-add-meter c =
-    let told = c.in-ok-node.ensures in
-    let bad = c.in-err-add-meter.ensures in
-    let f = c.in-err-add-meter.field-0.0 in
+pub returns-in_err-add_meter-in-Meter : goal.returns-in_err-add_meter-in-Meter
+returns-in_err-add_meter-in-Meter c =
+    let told = c.in_ok-node.ensures in
+    let bad = c.in_err-add_meter-in-Meter.ensures in
+    let f = c.in_err-add_meter-in-Meter.field-0.0 in
     let a = c.in-Meter in
     let same = c.loop-node.invariant.0 in
-    let step = step_as _ _ c.loop-node.reader.place c.loop-node.reader.line Meters c.args.nodes c.args.links (Meter a.node a.rate a.period) c.in-ok-node.field-0 _ _ same a.is told.next in
-    let r = err_from_is_err_and c.from-residual-in-err-add-meter.result c.from-residual-in-err-add-meter.ensures.1 in
+    let step = step_as _ _ c.loop-node.reader.place c.loop-node.reader.line Meters c.args.nodes c.args.links (Meter a.node a.rate a.period) c.in_ok-node.field-0 _ _ same a.is told.next in
+    let r = err_from_is_err_and c.from_residual-in_err-add_meter-in-Meter.result c.from_residual-in_err-add_meter-in-Meter.ensures.1 in
     rw (r.1, r.2) (record {
       goes = λ l₀ p₀ rule g. ⊎_elim
-          (λ h. meter_second _ l₀ p₀ c.loop-node.reader.line c.loop-node.reader.place c.args.nodes c.args.links c.args.network.now rule c.loop-node.gates (c.loop-node.invariant.1 l₀ p₀ rule g) a.node a.rate a.period step.0 f _ _ h.1.0 h.1.1 h.0 c.start-of-start.ensures.0 c.start-of-start.ensures.1 h.1.2)
-          (λ h. meter_misplaced _ l₀ p₀ c.loop-node.reader.line c.loop-node.reader.place c.args.nodes c.args.links c.args.network.now rule c.loop-node.gates (c.loop-node.invariant.1 l₀ p₀ rule g) a.node a.rate a.period step.0 f _ _ h.0 c.start-of-start.ensures.0 c.start-of-start.ensures.1 h.1 h.2)
+          (λ h. meter_second _ l₀ p₀ c.loop-node.reader.line c.loop-node.reader.place c.args.nodes c.args.links c.args.network.now rule c.loop-node.gates (c.loop-node.invariant.1 l₀ p₀ rule g) a.node a.rate a.period step.0 f _ _ h.1.0 h.1.1 h.0 c.start_of-start.ensures.0 c.start_of-start.ensures.1 h.1.2)
+          (λ h. meter_misplaced _ l₀ p₀ c.loop-node.reader.line c.loop-node.reader.place c.args.nodes c.args.links c.args.network.now rule c.loop-node.gates (c.loop-node.invariant.1 l₀ p₀ rule g) a.node a.rate a.period step.0 f _ _ h.0 c.start_of-start.ensures.0 c.start_of-start.ensures.1 h.1 h.2)
           bad;
       kept = told.kept ∙ same;
     })
 
 pub returns-in-Go : goal.returns-in-Go
 returns-in-Go c =
-    let told = c.in-ok-node.ensures in
+    let told = c.in_ok-node.ensures in
     let same = c.loop-node.invariant.0 in
-    let step = step_as _ _ c.loop-node.reader.place c.loop-node.reader.line Meters c.args.nodes c.args.links Go c.in-ok-node.field-0 _ _ same c.in-Go.is told.next in
+    let step = step_as _ _ c.loop-node.reader.place c.loop-node.reader.line Meters c.args.nodes c.args.links Go c.in_ok-node.field-0 _ _ same c.in-Go.is told.next in
     record {
-      goes = λ l₀ p₀ rule g. go_on _ l₀ p₀ c.loop-node.reader.line c.loop-node.reader.place c.args.nodes c.args.links c.args.network.now rule c.loop-node.gates (c.loop-node.invariant.1 l₀ p₀ rule g) _ _ _ _ c.start-of-start.ensures.0 c.start-of-start.ensures.1 step.0 step.1 step.2;
+      goes = λ l₀ p₀ rule g. go_on _ l₀ p₀ c.loop-node.reader.line c.loop-node.reader.place c.args.nodes c.args.links c.args.network.now rule c.loop-node.gates (c.loop-node.invariant.1 l₀ p₀ rule g) _ _ _ _ c.start_of-start.ensures.0 c.start_of-start.ensures.1 step.0 step.1 step.2;
       kept = told.kept ∙ same;
     }

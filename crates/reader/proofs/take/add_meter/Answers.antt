@@ -6,7 +6,7 @@ use Rattle.reader.proofs.take.add_meter.Goals as goal
 pub returns : goal.returns
 returns c =
     let gate = c.in-Some.ensures in (
-      ap numbers_of (sym c.gate.ensures) ∙ none_there c.gate.result (sym c.if-is-some.ensures),
-      c.if-not-is-merge.ensures.0 refl,
+      ap numbers_of (sym c.gate.ensures) ∙ none_there c.gate.result (sym c.if-is_some.ensures),
+      c.if-not-is_merge.ensures.0 refl,
       meters_put c.args.gates.now c.put.new.self c.args.node c.args.rate c.args.period c.in-Some.gate c.requires.node.0 c.requires.node.1 c.put.ensures.holds gate.1 gate.2,
     )

@@ -10,8 +10,8 @@ loop-i-init c = (offset_none (net_of c.args.net.now), omega arith)
 pub loop-i-preserved : goal.loop-i-preserved
 loop-i-preserved c =
     let v = c.loop-i.invariant in
-    let e = c.road-size-all.ensures in
-    (offset_road (net_of c.args.net.now) c.loop-i.all c.loop-i.i c.road-size-all.result (omega arith) v.0 e.told, omega (arith, v.1, e.small))
+    let e = c.road_size-all.ensures in
+    (offset_road (net_of c.args.net.now) c.loop-i.all c.loop-i.i c.road_size-all.result (omega arith) v.0 e.told, omega (arith, v.1, e.small))
 
 pub returns : goal.returns
 returns c =

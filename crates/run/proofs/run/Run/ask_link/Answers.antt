@@ -10,8 +10,8 @@ use Rattle.run.proofs.Props.{built_of}
 use Rattle.run.proofs.run.Run.ask_link.Goals as goal
 use Rattle.run.proofs.run.Run.ask_link.Goals.{then-k-lt1-via-then-k-lt1, then-k-lt1-via-else-k-lt1+then-k-links}
 
-pub returns-then-k-lt1 : goal.returns-then-k-lt1
-returns-then-k-lt1 c =
+pub returns-then-k-lt1-clause-carries : goal.returns-then-k-lt1-clause-carries
+returns-then-k-lt1-clause-carries c =
     let s = c.args.self.now.store in
     no_link (net_of s.net) (view_in s) c.args.number
     (elim c.then-k-lt1.branch [ then-k-lt1-via-then-k-lt1 w ↦ inl w.if-k-lt1.true | then-k-lt1-via-else-k-lt1+then-k-links w ↦ inr (omega (arith, w.if-k-links.true, w.links.ensures)) ])
@@ -19,8 +19,8 @@ returns-then-k-lt1 c =
 pub tell-requires : goal.tell-requires
 tell-requires c = record { built = built_of c.args.self.now; reached = c.args.self.now.reached; here = omega (arith, c.links.ensures) }
 
-pub returns : goal.returns
-returns c =
+pub returns-clause-carries : goal.returns-clause-carries
+returns-clause-carries c =
     let s = c.args.self.now.store in
     let k = c.args.number in
     let q : k - 1 + 1 ≡ k = omega arith in

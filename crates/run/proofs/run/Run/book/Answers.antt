@@ -18,15 +18,15 @@ judge-requires c = built_of c.args.self.now
 pub returns-in-Err : goal.returns-in-Err
 returns-in-Err c = record { carries = c.in-Err.ensures; net = refl; same = refl; area = tt; kept = refl }
 
-pub overflow-cast-x : goal.overflow-cast-x
-overflow-cast-x c =
+pub overflow_cast-x : goal.overflow_cast-x
+overflow_cast-x c =
     let n = c.args.self.now.store.net in
     let b = c.in-Ok.ensures in
     let w = in₁ (net_of n) c.args.x b.exit.0 [] b.exit.1.0 in
     omega (arith, w.1, ((right_of n).link b.exit.0 w.0).to_node, (right_of n).nodes)
 
-pub queue-up-requires : goal.queue-up-requires
-queue-up-requires c =
+pub queue_up-requires : goal.queue_up-requires
+queue_up-requires c =
     let s = c.args.self.now.store in
     let b = c.in-Ok.ensures in
     let u = built_of c.args.self.now in
@@ -36,23 +36,20 @@ queue-up-requires c =
       room = omega (arith, b.room, exits_length (holds s.yard (48 + c.in-Ok.j)), u.waits c.args.e c.in-Ok.j b.entrance);
     }
 
-pub invariant-of-self : goal.invariant-of-self
-invariant-of-self c =
+pub invariant_of-self : goal.invariant_of-self
+invariant_of-self c =
     let s = c.args.self.now.store in
-    let s' = c.queue-up.new.self in
-    let f = booked_on (net_of s.net) (view_in s) c.args.e c.args.x c.args.count c.in-Ok.j (view_in s') c.in-Ok.ensures c.queue-up.ensures.queued in (
-      ∣ c.queue-up.ensures.built ∣₁,
-      (subst (λ (n : Network). Reached (net_of n) (view_in s')) (sym c.queue-up.ensures.net) (reached_on (net_of s.net) (view_in s) _ (view_in s') f c.args.self.now.reached), tt),
-    )
+    let s' = c.queue_up.new.self in
+    let f = booked_on (net_of s.net) (view_in s) c.args.e c.args.x c.args.count c.in-Ok.j (view_in s') c.in-Ok.ensures c.queue_up.ensures.queued in record { built = ∣ c.queue_up.ensures.built ∣₁; reached = subst (λ (n : Network). Reached (net_of n) (view_in s')) (sym c.queue_up.ensures.net) (reached_on (net_of s.net) (view_in s) _ (view_in s') f c.args.self.now.reached) }
 
 pub returns : goal.returns
 returns c =
     let s = c.args.self.now.store in
-    let s' = c.queue-up.new.self in
+    let s' = c.queue_up.new.self in
     record {
-      carries = booked_on (net_of s.net) (view_in s) c.args.e c.args.x c.args.count c.in-Ok.j (view_in s') c.in-Ok.ensures c.queue-up.ensures.queued;
-      net = c.queue-up.ensures.net;
-      same = c.queue-up.ensures.same;
-      area = (c.in-Ok.j, c.in-Ok.ensures.entrance, c.queue-up.ensures.area, c.queue-up.ensures.queued);
+      carries = booked_on (net_of s.net) (view_in s) c.args.e c.args.x c.args.count c.in-Ok.j (view_in s') c.in-Ok.ensures c.queue_up.ensures.queued;
+      net = c.queue_up.ensures.net;
+      same = c.queue_up.ensures.same;
+      area = (c.in-Ok.j, c.in-Ok.ensures.entrance, c.queue_up.ensures.area, c.queue_up.ensures.queued);
       kept = tt;
     }

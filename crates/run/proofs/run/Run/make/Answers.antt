@@ -5,13 +5,10 @@ use Rattle.newell.proofs.Carried.{opening_starts}
 use Rattle.run.proofs.Laying.{built, opened}
 use Rattle.run.proofs.run.Run.make.Goals as goal
 
-pub invariant-of-result : goal.invariant-of-result
-invariant-of-result c =
+pub invariant_of-result : goal.invariant_of-result
+invariant_of-result c =
     let n = c.args.net in
-    let o = opened (net_of n) _ (right_of n).count c.lay-table.ensures c.requires in (
-      ∣ built (net_of n) _ (right_of n).count c.lay-table.ensures c.requires ∣₁,
-      (∣ ([], opening_starts (net_of n) (sound_of n.layout (right_of n)) _ o) ∣₁, tt),
-    )
+    let o = opened (net_of n) _ (right_of n).count c.lay-table.ensures c.requires in record { built = ∣ built (net_of n) _ (right_of n).count c.lay-table.ensures c.requires ∣₁; reached = ∣ ([], opening_starts (net_of n) (sound_of n.layout (right_of n)) _ o) ∣₁ }
 
 pub returns : goal.returns
 returns c =

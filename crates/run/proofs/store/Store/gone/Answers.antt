@@ -10,10 +10,10 @@ use Rattle.run.proofs.store.Store.gone.Goals as goal
 pub off-requires : goal.off-requires
 off-requires c = record { here = exit_place c.args.self.now.net c.args.x c.in-Some.i c.in-Some.ensures; full = c.requires.full; near = omega arith }
 
-pub returns-in-None : goal.returns-in-None
-returns-in-None c = let s = c.args.self.now in no_exit (net_of s.net) (view_in s) c.args.x c.in-None.ensures
+pub returns-in-None-clause-carries : goal.returns-in-None-clause-carries
+returns-in-None-clause-carries c = let s = c.args.self.now in no_exit (net_of s.net) (view_in s) c.args.x c.in-None.ensures
 
-pub returns-in-Some : goal.returns-in-Some
-returns-in-Some c =
+pub returns-in-Some-clause-carries : goal.returns-in-Some-clause-carries
+returns-in-Some-clause-carries c =
     let s = c.args.self.now in
     subst (λ k. Carries (net_of s.net) (view_in s) (ask_exit c.args.x (told k)) (view_in s)) (sym c.off.ensures) (exit_tells (net_of s.net) (view_in s) c.args.x c.in-Some.i c.in-Some.ensures)

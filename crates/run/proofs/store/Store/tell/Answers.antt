@@ -22,8 +22,8 @@ on-arrived-requires c =
       near = omega (arith, ((right_of s.net).link c.args.i c.requires.here).free_most, c.free-free.ensures);
     }
 
-pub overflow-sub-result : goal.overflow-sub-result
-overflow-sub-result c =
+pub overflow_sub-result : goal.overflow_sub-result
+overflow_sub-result c =
     let s = c.args.self.now in
     let a = reached_le (net_of s.net) (view_in s) _ _ c.requires.reached (λ w f. (f.link c.args.i c.requires.here).queueing) in
     omega (arith, a, c.off-off.ensures, c.on-arrived.ensures, ap (λ k. back (gauge_of s.yard c.args.i).ons k) c.free-free.ensures)

@@ -12,11 +12,14 @@ use Rattle.run.proofs.store.Store.waiting.Goals as goal
 pub count-requires : goal.count-requires
 count-requires c = record { here = entrance_place c.args.self.now.net c.args.e c.in-Some.j c.in-Some.ensures; laid = c.requires.laid }
 
-pub returns-in-None : goal.returns-in-None
-returns-in-None c = let s = c.args.self.now in no_entrance (net_of s.net) (view_in s) c.args.e c.in-None.ensures
+pub returns-in-None-clause-carries : goal.returns-in-None-clause-carries
+returns-in-None-clause-carries c = let s = c.args.self.now in no_entrance (net_of s.net) (view_in s) c.args.e c.in-None.ensures
 
-pub returns-in-Some : goal.returns-in-Some
-returns-in-Some c =
+pub returns-in-Some-clause-carries : goal.returns-in-Some-clause-carries
+returns-in-Some-clause-carries c =
     let s = c.args.self.now in
     let q = exits_length (holds s.yard (48 + c.in-Some.j)) ∙ sym c.count.ensures in
     subst (λ k. Carries (net_of s.net) (view_in s) (ask_entrance c.args.e (told k)) (view_in s)) q (entrance_tells (net_of s.net) (view_in s) c.args.e c.in-Some.j c.in-Some.ensures)
+
+pub returns-in-Some-clause-told : goal.returns-in-Some-clause-told
+returns-in-Some-clause-told c = (c.in-Some.j, c.in-Some.ensures, c.count.ensures ∙ sym (exits_length (holds c.args.self.now.yard (48 + c.in-Some.j))))
