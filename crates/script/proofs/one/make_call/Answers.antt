@@ -28,7 +28,7 @@ pub returns-in-Ok : goal.returns-in-Ok
 returns-in-Ok g c =
     let s = c.args.run.now.store in
     record {
-      called = call_link (net_of s.net) (g.R.MergeRule.meaning c.args.rule.now) c.args.rows.now (view_in s) c.args.call (answer.Link c.in-Ok.state) c.in-Link.number (told c.in-Ok.state) c.in-Link.is refl c.in-Ok.ensures;
+      called = call_link (net_of s.net) (g.R.MergeRule.meaning c.args.rule.now) c.args.rows.now (view_in s) c.args.call (answer.Link c.in-Ok.state) c.in-Link.number (told c.in-Ok.state) c.in-Link.is refl c.in-Ok.ensures.carries;
       net = refl;
       same = refl;
     }
@@ -37,43 +37,43 @@ pub returns-in-Err : goal.returns-in-Err
 returns-in-Err g c =
     let s = c.args.run.now.store in
     record {
-      called = call_link (net_of s.net) (g.R.MergeRule.meaning c.args.rule.now) c.args.rows.now (view_in s) c.args.call (answer.Refused c.in-Err.refusal) c.in-Link.number (refused (number c.in-Err.refusal)) c.in-Link.is refl c.in-Err.ensures;
+      called = call_link (net_of s.net) (g.R.MergeRule.meaning c.args.rule.now) c.args.rows.now (view_in s) c.args.call (answer.Refused c.in-Err.refusal) c.in-Link.number (refused (number c.in-Err.refusal)) c.in-Link.is refl c.in-Err.ensures.carries;
       net = refl;
       same = refl;
     }
 
-pub returns-in-Ok-ask-entrance : goal.returns-in-Ok-ask-entrance
-returns-in-Ok-ask-entrance g c =
+pub returns-in-Ok-ask_entrance : goal.returns-in-Ok-ask_entrance
+returns-in-Ok-ask_entrance g c =
     let s = c.args.run.now.store in
     record {
-      called = call_entrance (net_of s.net) (g.R.MergeRule.meaning c.args.rule.now) c.args.rows.now (view_in s) c.args.call (answer.Waiting c.in-Ok-ask-entrance.count) c.in-Entrance.node (told c.in-Ok-ask-entrance.count) c.in-Entrance.is refl c.in-Ok-ask-entrance.ensures;
+      called = call_entrance (net_of s.net) (g.R.MergeRule.meaning c.args.rule.now) c.args.rows.now (view_in s) c.args.call (answer.Waiting c.in-Ok-ask_entrance.count) c.in-Entrance.node (told c.in-Ok-ask_entrance.count) c.in-Entrance.is refl c.in-Ok-ask_entrance.ensures.carries;
       net = refl;
       same = refl;
     }
 
-pub returns-in-Err-ask-entrance : goal.returns-in-Err-ask-entrance
-returns-in-Err-ask-entrance g c =
+pub returns-in-Err-ask_entrance : goal.returns-in-Err-ask_entrance
+returns-in-Err-ask_entrance g c =
     let s = c.args.run.now.store in
     record {
-      called = call_entrance (net_of s.net) (g.R.MergeRule.meaning c.args.rule.now) c.args.rows.now (view_in s) c.args.call (answer.Refused c.in-Err-ask-entrance.refusal) c.in-Entrance.node (refused (number c.in-Err-ask-entrance.refusal)) c.in-Entrance.is refl c.in-Err-ask-entrance.ensures;
+      called = call_entrance (net_of s.net) (g.R.MergeRule.meaning c.args.rule.now) c.args.rows.now (view_in s) c.args.call (answer.Refused c.in-Err-ask_entrance.refusal) c.in-Entrance.node (refused (number c.in-Err-ask_entrance.refusal)) c.in-Entrance.is refl c.in-Err-ask_entrance.ensures.carries;
       net = refl;
       same = refl;
     }
 
-pub returns-in-Ok-ask-exit : goal.returns-in-Ok-ask-exit
-returns-in-Ok-ask-exit g c =
+pub returns-in-Ok-ask_exit : goal.returns-in-Ok-ask_exit
+returns-in-Ok-ask_exit g c =
     let s = c.args.run.now.store in
     record {
-      called = call_exit (net_of s.net) (g.R.MergeRule.meaning c.args.rule.now) c.args.rows.now (view_in s) c.args.call (answer.Gone c.in-Ok-ask-exit.count) c.in-Exit.node (told c.in-Ok-ask-exit.count) c.in-Exit.is refl c.in-Ok-ask-exit.ensures;
+      called = call_exit (net_of s.net) (g.R.MergeRule.meaning c.args.rule.now) c.args.rows.now (view_in s) c.args.call (answer.Gone c.in-Ok-ask_exit.count) c.in-Exit.node (told c.in-Ok-ask_exit.count) c.in-Exit.is refl c.in-Ok-ask_exit.ensures.carries;
       net = refl;
       same = refl;
     }
 
-pub returns-in-Err-ask-exit : goal.returns-in-Err-ask-exit
-returns-in-Err-ask-exit g c =
+pub returns-in-Err-ask_exit : goal.returns-in-Err-ask_exit
+returns-in-Err-ask_exit g c =
     let s = c.args.run.now.store in
     record {
-      called = call_exit (net_of s.net) (g.R.MergeRule.meaning c.args.rule.now) c.args.rows.now (view_in s) c.args.call (answer.Refused c.in-Err-ask-exit.refusal) c.in-Exit.node (refused (number c.in-Err-ask-exit.refusal)) c.in-Exit.is refl c.in-Err-ask-exit.ensures;
+      called = call_exit (net_of s.net) (g.R.MergeRule.meaning c.args.rule.now) c.args.rows.now (view_in s) c.args.call (answer.Refused c.in-Err-ask_exit.refusal) c.in-Exit.node (refused (number c.in-Err-ask_exit.refusal)) c.in-Exit.is refl c.in-Err-ask_exit.ensures.carries;
       net = refl;
       same = refl;
     }
