@@ -1,9 +1,9 @@
 -- A line whose words are good is judged as a row, down the table. Assumes nothing.
-use Rattle.std.proofs.Common.{◌≡◌, ℕ, ◌+◌, ◌<◌, ◌≤◌, Bool, true, false, ◌⊎◌, List, [], ◌∷◌, ◌++◌, map, length, Some, None, Err, Option, sym, refl, ap, ◌∙◌, subst, inl, inr, arith, MatchOption}
+use Rattle.std.proofs.Common.{◌≡◌, ℕ, ◌+◌, ◌<◌, true, false, List, ◌∷◌, map, length, Some, Err, Option, sym, refl, ap, ◌∙◌, subst, inl, inr, arith, MatchOption}
 use Rattle.std.proofs.lemmas.Option.{MatchOption-at_some, MatchOption-at_none}
 use Rattle.std.proofs.lemmas.Bool.{both_ways}
 use Rattle.words.specs.Lines.{Spot, words_at, end_at, word_checks}
-use Rattle.words.specs.Tables.{Check, First, Never, Tells, Refuses, Passes}
+use Rattle.words.specs.Tables.{First, Never, Refuses, Passes}
 use Rattle.words.specs.Texts.{texts}
 use Rattle.words.specs.Tokens.{Taken, RefusedWords}
 use Rattle.words.specs.declared.fault.Told.{Told}

@@ -1,12 +1,12 @@
 -- The words of a line, taken one by one, against what is wanted of each. Assumes nothing.
-use Rattle.std.proofs.Common.{◌≡◌, ℕ, ◌+◌, ◌-◌, ◌^◌, ◌<◌, ◌≤◌, Bool, true, false, cond, eqb, leb, ◌⊎◌, List, [], ◌∷◌, ◌++◌, map, length, get_or, take, drop, set, codes, decimal, sym, refl, ap, ◌∙◌, subst, inl, inr, ⊎_elim, arith}
+use Rattle.std.proofs.Common.{◌≡◌, ℕ, ◌+◌, ◌-◌, ◌<◌, ◌≤◌, eqb, leb, List, [], ◌∷◌, ◌++◌, map, length, get_or, take, drop, set, decimal, sym, refl, ap, ◌∙◌, subst, inl, inr, ⊎_elim, arith}
 use Rattle.std.proofs.lemmas.Fmt.{decimal_injective}
-use Rattle.std.proofs.lemmas.List.{append_assoc, take_more_set, take_all, length-take-le, map_push, map_more, take-map, length-set, drop_all, append-nil, nil_from_length, length-map, drop_more, get_or-map}
+use Rattle.std.proofs.lemmas.List.{append_assoc, take_more_set, take_all, length-take-le, map_push, map_more, take-map, append-nil, nil_from_length, length-map, drop_more, get_or-map}
 use Rattle.std.proofs.lemmas.Bool.{eq-eqb, ne_eqb, le-leb, lt-leb, cond-true, cond-false, cases_eq, cases_lt}
-use Rattle.words.specs.Lines.{Spot, spot, line, words, words_at, end_at}
-use Rattle.words.specs.Tables.{First, Never}
+use Rattle.words.specs.Lines.{Spot, line, words, words_at, end_at}
+use Rattle.words.specs.Tables.{First}
 use Rattle.words.specs.Texts.{texts}
-use Rattle.words.specs.Tokens.{Taken, behind}
+use Rattle.words.specs.Tokens.{Taken}
 use Rattle.words.proofs.Cuts.{words_space, words_other, grow}
 use Rattle.rows.specs.Kinds.{count_of}
 use Rattle.rows.specs.Rows.{Field, number, rule, written, rule_text, kind_of, fields_of}

@@ -1,5 +1,5 @@
 -- What the words behind a row's name give, taken one by one.
-use Rattle.std.specs.Prelude.{◌≡◌, ℕ, ◌<◌, ◌≤◌, true, false, cond, ◌⊎◌, List, [], ◌∷◌, map, length, Some, None, decimal, Option, Result, MatchResult, ◌≢◌, nat_le, slice_index_or}
+use Rattle.std.specs.Prelude.{◌≡◌, ℕ, ◌<◌, ◌≤◌, true, false, cond, ◌⊎◌, List, [], map, length, Some, None, decimal, Option, Result, MatchResult, ◌≢◌, nat_le, slice_index_or}
 use Rattle.words.specs.Lines.{Spot, words_at, end_at}
 use Rattle.words.specs.Tables.{First}
 use Rattle.words.specs.Tokens.{Taken}

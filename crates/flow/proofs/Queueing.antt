@@ -1,5 +1,5 @@
 -- Those that are booked.
-use Rattle.std.proofs.Common.{◌≡◌, ℕ, zero, suc, ◌+◌, ◌<◌, ◌≤◌, ◌≢◌, List, [], ◌∷◌, ◌++◌, length, replicate, sym, refl, ap, ◌∙◌, append_assoc, append-nil, add-one, arith, length-append}
+use Rattle.std.proofs.Common.{◌≡◌, ℕ, zero, suc, ◌+◌, ◌<◌, ◌≤◌, [], ◌∷◌, ◌++◌, length, replicate, sym, refl, ap, ◌∙◌, append_assoc, append-nil, add-one, arith, length-append}
 use lib.ListN.{length-replicate}
 use Rattle.newell.specs.declared.records.Vehicle.{Vehicle}
 use Rattle.links.specs.declared.records.Yard.{Yard}

@@ -1,5 +1,5 @@
 -- Those that come from entrances, and then those that come from links.
-use Rattle.std.proofs.Common.{◌≡◌, ℕ, zero, suc, ◌+◌, ◌-◌, ◌<◌, ◌≤◌, Bool, true, false, cond, ◌≢◌, ◌⊎◌, List, [], ◌∷◌, ◌++◌, length, get_or, take, drop, Some, None, Option, sym, refl, ap, ◌∙◌, subst, ap₂, inl, inr, ⊎_elim, append_assoc, append-nil, arith, length-append, length-drop, length-take, le-ltb, lt-ltb}
+use Rattle.std.proofs.Common.{◌≡◌, ℕ, zero, suc, ◌+◌, ◌<◌, ◌≤◌, cond, List, [], ◌++◌, length, get_or, take, drop, Some, sym, refl, ap, ◌∙◌, subst, ap₂, ⊎_elim, append_assoc, append-nil, arith, length-append, le-ltb, lt-ltb}
 use lib.Seq.{take-append-le, drop-append-le}
 use Rattle.std.proofs.lemmas.List.{get_or_append_left}
 use Rattle.std.proofs.lemmas.Bool.{cases_lt}
@@ -9,7 +9,7 @@ use Rattle.newell.specs.History.{final}
 use Rattle.links.specs.declared.records.Yard.{Yard}
 use Rattle.line.specs.Spots.{written}
 use Rattle.line.proofs.Writing.{written_append}
-use Rattle.links.specs.Yards.{holds, spots_of, size_of, Laid}
+use Rattle.links.specs.Yards.{holds, spots_of, size_of}
 use Rattle.links.proofs.Spacing.{beyond_more}
 use Rattle.flow.specs.Flows.{going, stamped, exits, nobody, lasted, came_by, up_to, SentAll, Sendable, PulledAll, Shifted, Shiftable}
 use Rattle.flow.proofs.Going.{stamped_append, stamped_none, stamped_length, going_nobody}

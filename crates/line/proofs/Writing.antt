@@ -1,11 +1,11 @@
 -- What a call makes of the spots of a queue.
-use Rattle.std.proofs.Common.{◌≡◌, ℕ, ◌+◌, ◌-◌, ◌<◌, ◌≤◌, cond, ltb, ◌⊎◌, List, [], ◌∷◌, ◌++◌, length, get_or, take, drop, set, sym, refl, ap, ◌∙◌, subst, ap₂, inl, inr, ⊎_elim, arith}
+use Rattle.std.proofs.Common.{◌≡◌, ℕ, ◌+◌, ◌-◌, ◌<◌, ◌≤◌, ltb, ◌⊎◌, List, [], ◌∷◌, ◌++◌, length, get_or, set, sym, refl, ap, ◌∙◌, subst, ap₂, inl, inr, arith}
 use borrow.Rule.Slice.PartMut.{set_mid_at}
 use Rattle.std.proofs.lemmas.List.{length-set, take-set-le, drop-set-lt, get_or-take, get_or-drop}
-use Rattle.std.proofs.lemmas.Bool.{cond-true, lt-ltb, cases_lt}
+use Rattle.std.proofs.lemmas.Bool.{cond-true, lt-ltb}
 use Rattle.std.proofs.lemmas.Bool.Decides.{nat_tests}
 use Rattle.line.specs.Ring.{slot_of, passed}
-use Rattle.line.specs.Parts.{Sound, Around, part_of, replaced}
+use Rattle.line.specs.Parts.{Sound, Around, part_of}
 use Rattle.line.specs.Spots.{Spots, round, wrote, written, spots_in}
 use Rattle.line.specs.declared.shape.Mark.{Mark}
 use Rattle.line.proofs.Pieces.{length_part, part_back, slot_inside}

@@ -1,10 +1,10 @@
 -- A write to one lane's part and mark.
-use Rattle.std.proofs.Common.{◌≡◌, ℕ, ◌+◌, ◌-◌, ◌<◌, ◌≤◌, Bool, true, cond, ltb, ◌≢◌, List, [], ◌∷◌, ◌++◌, length, get_or, set, Some, sym, refl, ap, ◌∙◌, subst, ⊎_elim, arith}
+use Rattle.std.proofs.Common.{◌≡◌, ℕ, ◌+◌, ◌-◌, ◌<◌, ◌≤◌, ◌≢◌, List, length, get_or, set, Some, sym, ap, ◌∙◌, subst, ⊎_elim, arith}
 use Rattle.std.specs.List.{slice_get, between}
 use Rattle.std.proofs.lemmas.Option.{slice_get-get_or}
 use Rattle.std.proofs.lemmas.Bool.{cases_eq, cases_lt}
-use Rattle.line.specs.Ring.{held, slot_of, passed, rest}
-use Rattle.line.specs.Spots.{Spots, spots_in, wrote, round}
+use Rattle.line.specs.Ring.{held, slot_of, passed}
+use Rattle.line.specs.Spots.{spots_in, wrote, round}
 use Rattle.line.specs.Parts.{Around, Sound, part_of, queue}
 use Rattle.line.specs.declared.shape.Mark.{Mark}
 use Rattle.line.proofs.Pieces.{part_before, part_behind, length_part, slot_inside}

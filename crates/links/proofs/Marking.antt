@@ -1,12 +1,12 @@
 -- A change of one record, lane by lane.
-use Rattle.std.proofs.Common.{◌≡◌, ℕ, ◌+◌, ◌-◌, ◌<◌, ◌≤◌, Bool, cond, ◌≢◌, length, sym, refl, ap, ◌∙◌, subst, ⊎_elim, arith, le-ltb, lt-ltb}
+use Rattle.std.proofs.Common.{◌≡◌, ℕ, ◌+◌, ◌-◌, ◌<◌, ◌≤◌, cond, ◌≢◌, sym, refl, ap, ◌∙◌, subst, ⊎_elim, arith, le-ltb, lt-ltb}
 use Rattle.std.proofs.lemmas.Bool.{cases_eq, cases_lt}
 use Rattle.line.specs.declared.shape.Mark.{Mark}
 use Rattle.links.specs.declared.records.Lane.{Lane}
 use Rattle.links.specs.declared.records.LinkRecord.{LinkRecord}
 use Rattle.links.specs.declared.records.Table.{Table}
 use Rattle.links.specs.declared.records.Change.{Change}
-use Rattle.links.specs.declared.records.Change.TheVariants.{Road, Queue, Readings}
+use Rattle.links.specs.declared.records.Change.TheVariants.{Road, Queue}
 use Rattle.links.specs.Tables.{record_at, lane_at, remarked, gauge_in, Changed, Marked}
 
 pub road_at : (t : Table) (i : ℕ) → i < 48 → lane_at t i ≡ (record_at t i).road

@@ -1,14 +1,13 @@
 -- Readings that are noted.
-use Rattle.std.proofs.Common.{◌≡◌, ℕ, ◌+◌, ◌<◌, ◌≤◌, ◌≢◌, length, get_or, Option, sym, refl, ap, ◌∙◌, subst, ⊎_elim, arith}
+use Rattle.std.proofs.Common.{◌≡◌, ℕ, ◌<◌, ◌≢◌, length, get_or, Option, sym, refl, ap, ◌∙◌, subst, ⊎_elim, arith}
 use Rattle.std.proofs.lemmas.Bool.{cases_eq}
 use Rattle.line.specs.Parts.{Sound}
 use Rattle.links.specs.declared.records.Lane.{Lane}
 use Rattle.links.specs.declared.records.LinkRecord.{LinkRecord}
-use Rattle.links.specs.declared.records.Table.{Table}
 use Rattle.links.specs.declared.records.Change.TheVariants.{Readings}
 use Rattle.links.specs.declared.records.Yard.{Yard}
 use Rattle.links.specs.Readings.{Full}
-use Rattle.links.specs.Tables.{table_size, lane_at, record_at, Gauge, gauge_in, fresh_curve, Changed}
+use Rattle.links.specs.Tables.{table_size, lane_at, Gauge, gauge_in, fresh_curve, Changed}
 use Rattle.line.specs.Spots.{spots_in}
 use Rattle.links.specs.Yards.{in_lane, holds, start_of, size_of, spots_of, gauge_of, Laid, AllFull, NotedAt}
 use Rattle.links.proofs.Marking.{lanes_same, part_same}

@@ -1,5 +1,5 @@
 -- The table of links, record by record.
-use Rattle.std.specs.Prelude.{◌≡◌, ℕ, ◌+◌, ◌-◌, ◌<◌, cond, ◌≢◌, [], length, replicate, None, Option, nat_lt, slice_index_or}
+use Rattle.std.specs.Prelude.{◌≡◌, ℕ, ◌+◌, ◌-◌, cond, ◌≢◌, [], length, replicate, None, Option, nat_lt, slice_index_or}
 use Rattle.line.specs.declared.shape.Mark.{Mark}
 use Rattle.links.specs.declared.records.Lane.{Lane}
 use Rattle.links.specs.declared.records.Curve.{Curve}

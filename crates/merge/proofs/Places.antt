@@ -1,5 +1,5 @@
 -- What a list with a place for each node has at the nodes.
-use Rattle.std.proofs.Common.{◌≡◌, ℕ, ◌+◌, ltb, leb, List, get_or, replicate, refl, arith}
+use Rattle.std.proofs.Common.{◌≡◌, ℕ, ◌+◌, ltb, leb, get_or, replicate, refl, arith}
 use mathlib.Core.Path.{fun_ext}
 use lib.ListN.{get_or-replicate}
 use Rattle.std.proofs.lemmas.Bool.{cond_both, and_parts, leb-true}

@@ -1,5 +1,5 @@
 -- The rules are lawful, and a lawful meaning goes on lawful.
-use Rattle.std.specs.Prelude.{ℕ, Bool, true, false, cond, List, [], ◌∷◌, ◌==◌}
+use Rattle.std.specs.Prelude.{ℕ, Bool, true, false, cond, List, ◌∷◌, ◌==◌}
 use Rattle.std.proofs.Common.{arith}
 use Rattle.std.specs.List.{AllByRecursion as All}
 use Rattle.merge.specs.declared.question.Question.{Question}

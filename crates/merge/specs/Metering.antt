@@ -1,5 +1,5 @@
 -- The ramp meter: what it makes of the meaning below it.
-use Rattle.std.specs.Prelude.{◌≡◌, ℕ, ◌%◌, ◌≤◌, min, Bool, cond, ◌&&◌, map, Some, None, Option, ◌==◌, ◌≢◌}
+use Rattle.std.specs.Prelude.{◌≡◌, ℕ, ◌%◌, ◌≤◌, min, cond, ◌&&◌, map, Some, None, Option, ◌==◌, ◌≢◌}
 use Rattle.merge.specs.declared.question.Question.{Question}
 use Rattle.merge.specs.declared.gate.Gate.{Gate}
 use Rattle.merge.specs.declared.gates.Gates.{Gates}

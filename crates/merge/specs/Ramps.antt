@@ -1,5 +1,5 @@
 -- `ramp`: the second leg, the ramp, goes first.
-use Rattle.std.specs.Prelude.{◌≡◌, ℕ, ◌+◌, ◌-◌, ◌≤◌, min}
+use Rattle.std.specs.Prelude.{◌≡◌, ℕ, ◌-◌, min}
 use Rattle.merge.specs.declared.question.Question.{Question}
 use Rattle.merge.specs.Rules.{Meaning, alike}
 

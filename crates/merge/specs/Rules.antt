@@ -1,5 +1,5 @@
 -- What a merge rule means, whatever its type, and the law that every rule keeps.
-use Rattle.std.specs.Prelude.{◌≡◌, ℕ, ◌+◌, ◌^◌, ◌<◌, ◌≤◌, min, cond, List, [], ◌∷◌, ◌==◌}
+use Rattle.std.specs.Prelude.{◌≡◌, ℕ, ◌+◌, ◌^◌, ◌<◌, ◌≤◌, min, cond, List, ◌∷◌, ◌==◌}
 use Rattle.std.specs.List.{AllByRecursion as All}
 use Rattle.merge.specs.declared.question.Question.{Question}
 

@@ -1,5 +1,5 @@
 -- A share is within the places, and a split by shares is proper.
-use Rattle.std.specs.Prelude.{ℕ, ◌+◌, ◌*◌, ◌/◌, ◌≤◌}
+use Rattle.std.specs.Prelude.{ℕ, ◌+◌, ◌≤◌}
 use Rattle.std.proofs.Math.Nat.{div-le_of_le-mul}
 use Rattle.std.proofs.Common.{mul_comm, add-mul, arith}
 use Rattle.std.proofs.lemmas.Bool.Decides.{nat_tests}

@@ -1,13 +1,12 @@
 -- A zip by numbers is the zip vehicle by vehicle.
-use Rattle.std.specs.Prelude.{◌≡◌, ℕ, zero, suc, ◌+◌, ◌-◌, ◌/◌, ◌%◌, ◌<◌, ◌≤◌, min, Bool, true, false, cond, not, eqb, ltb, List, [], ◌∷◌, length, refl}
-use Rattle.std.proofs.Common.{sym, ◌∙◌, ap, arith, add-one}
+use Rattle.std.specs.Prelude.{◌≡◌, ℕ, zero, suc, ◌+◌, ◌-◌, ◌<◌, ◌≤◌, min, Bool, true, false, cond, not, List, [], ◌∷◌, length, refl}
+use Rattle.std.proofs.Common.{sym, ◌∙◌, ap, arith}
 use Rattle.std.proofs.lemmas.Bool.Decides.{nat_tests}
 use Rattle.merge.specs.declared.question.Question.{Question}
 use Rattle.merge.specs.declared.alternate.Leg.{Leg}
 use Rattle.merge.specs.declared.alternate.Leg.TheVariants.{First, Second}
-use Rattle.merge.specs.declared.alternate.Zipped.{Zipped}
 use Rattle.merge.specs.Rules.{Askable, Proper}
-use Rattle.merge.specs.Turns.{order, firsts, seconds, turn_behind, zipped, zip_all, own_part, own_last, zip_counts, Alternates, Zips}
+use Rattle.merge.specs.Turns.{order, firsts, seconds, turn_behind, zip_all, own_part, own_last, zip_counts, Alternates, Zips}
 
 -- no vehicle
 part_none : (n own others : ℕ) → n ≡ 0 → own_part n own others ≡ 0

@@ -1,5 +1,5 @@
 -- Links counted one by one.
-use Rattle.std.proofs.Common.{◌≡◌, ℕ, zero, suc, ◌+◌, ◌-◌, ◌<◌, ◌≤◌, Bool, true, false, cond, eqb, List, [], ◌∷◌, ◌++◌, length, get_or, sym, refl, ap, ◌∙◌, subst, append-nil, add-one, arith, length-append, eq-eqb, ne_eqb}
+use Rattle.std.proofs.Common.{◌≡◌, ℕ, ◌+◌, ◌≤◌, Bool, true, false, cond, List, [], ◌∷◌, ◌++◌, sym, refl, ap, ◌∙◌, subst, append-nil, add-one, arith, length-append, eq-eqb, ne_eqb}
 use Rattle.network.specs.Net.{places}
 use Rattle.network.specs.declared.scan.Few.{Few}
 use Rattle.network.specs.Scans.{IsFew, more_of}

@@ -1,12 +1,12 @@
 -- The kinds of all nodes, and the network that they make.
-use Rattle.std.proofs.Common.{◌≡◌, ℕ, ◌+◌, ◌<◌, ◌≤◌, Bool, true, false, ◌≢◌, ◌⊎◌, List, [], ◌∷◌, length, get_or, set, sym, refl, ap, ◌∙◌, subst, inl, inr, ⊎_elim, arith}
+use Rattle.std.proofs.Common.{◌≡◌, ℕ, ◌+◌, ◌<◌, ◌≤◌, true, false, List, length, get_or, set, sym, refl, subst, ⊎_elim, arith}
 use Rattle.std.proofs.lemmas.Bool.{both_ways, cases_eq}
-use Rattle.std.proofs.lemmas.List.{length-set, get_or-set_same, get_or-set_other}
+use Rattle.std.proofs.lemmas.List.{get_or-set_same, get_or-set_other}
 use Rattle.network.specs.declared.kind.NodeKind.{NodeKind}
 use Rattle.network.specs.declared.kind.NodeKind.TheVariants.{Nothing, Entrance, Exit, Mainline, Merge, Diverge}
 use Rattle.network.specs.declared.layout.Layout.{Layout}
 use Rattle.network.specs.Net.{Net, Kind}
-use Rattle.network.specs.Layouts.{drawn, kind_at, IsKind, Right}
+use Rattle.network.specs.Layouts.{drawn, IsKind, Right}
 use Rattle.network.specs.Scans.{IsOrNone}
 use Rattle.network.specs.Begun.{Begun}
 use Rattle.network.specs.Drafts.{is_kind, LowestOdd}

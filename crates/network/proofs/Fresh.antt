@@ -1,8 +1,8 @@
 -- The fresh network keeps the rules.
-use Rattle.std.proofs.Common.{◌≡◌, ℕ, ◌+◌, ◌<◌, ◌≤◌, ◌⊎◌, List, [], ◌∷◌, length, get_or, set, Some, None, sym, refl, ap, ◌∙◌, subst, inl, inr, ⊎_elim, arith, lit<, lit≤}
+use Rattle.std.proofs.Common.{◌≡◌, ℕ, ◌≤◌, List, get_or, set, sym, refl, ap, ◌∙◌, subst, ⊎_elim, arith, lit<, lit≤}
 use Rattle.std.proofs.lemmas.Bool.{cases_eq}
 use Rattle.network.specs.declared.kind.NodeKind.{NodeKind}
-use Rattle.network.specs.declared.kind.NodeKind.TheVariants.{Nothing, Entrance, Exit}
+use Rattle.network.specs.declared.kind.NodeKind.TheVariants.{Nothing}
 use Rattle.network.specs.declared.layout.Layout.{Layout}
 use Rattle.network.specs.Layouts.{drawn, IsKind, Right, empty_layout}
 use Rattle.network.specs.Begun.{Begun}

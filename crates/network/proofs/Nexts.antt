@@ -1,6 +1,6 @@
 -- The link after a link leaves the node where that ends.
-use Rattle.std.proofs.Common.{◌≡◌, ℕ, ◌<◌, ◌≤◌, ◌≢◌, List, [], ◌∷◌, Some, None, Option, sym, refl, ap, ◌∙◌, subst, inl, arith}
-use Rattle.network.specs.Net.{Net, leaving, onward, next}
+use Rattle.std.proofs.Common.{◌≡◌, ℕ, ◌<◌, ◌≢◌, List, [], ◌∷◌, Some, sym, refl, ap, ◌∙◌, subst, inl, arith}
+use Rattle.network.specs.Net.{leaving, onward, next}
 use Rattle.network.proofs.Places.{In, left_from}
 use Rattle.network.specs.declared.layout.Layout.{Layout}
 use Rattle.network.specs.Layouts.{drawn, link_of, route_at, Right}

@@ -1,5 +1,5 @@
 -- That a layout is right has one proof at most, and a right layout is a network that keeps the rules.
-use Rattle.std.proofs.Common.{◌≡◌, ℕ, ◌<◌, ◌≤◌, Bool, true, false, ◌⊎◌, List, [], ◌∷◌, Some, None, sym, refl, ap, ◌∙◌, subst, inl, inr, arith}
+use Rattle.std.proofs.Common.{◌≡◌, ℕ, ◌≤◌, true, false, ◌⊎◌, List, [], ◌∷◌, refl, subst}
 use mathlib.Core.Logic.{∥∥₁_elim}
 use mathlib.Core.List.{is_set}
 use mathlib.Core.Bool.{Bool-set}
@@ -13,7 +13,7 @@ use Rattle.network.specs.declared.layout.Layout.{Layout}
 use Rattle.network.specs.declared.network.Network.{Network}
 use Rattle.network.specs.Net.{Net, SoundLink, Sound, Kind, entrance, exit, mainline, merge, diverge, entering, leaving}
 use Rattle.network.specs.Net as law
-use Rattle.network.specs.Layouts.{drawn, link_of, route_at, kind_at, Has, IsKind, is_diverge, is_exit, Leads, Right}
+use Rattle.network.specs.Layouts.{drawn, link_of, kind_at, Has, IsKind, is_diverge, is_exit, Leads, Right}
 use Rattle.network.proofs.Places.{In, leaves, pair}
 
 has_prop : (net : Net) (n : ℕ) (ins outs : List ℕ) → IsProp (Has net n ins outs)

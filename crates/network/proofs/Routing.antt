@@ -1,15 +1,14 @@
 -- Nodes that a route names, and a route row more.
-use Rattle.std.proofs.Common.{◌≡◌, ℕ, ◌+◌, ◌-◌, ◌*◌, ◌<◌, ◌≤◌, Bool, true, false, cond, ◌&&◌, eqb, ltb, ◌≢◌, ◌⊎◌, List, [], ◌∷◌, length, get_or, set, Some, None, Option, sym, refl, ap, ◌∙◌, subst, inl, inr, ⊎_elim, arith}
+use Rattle.std.proofs.Common.{◌≡◌, ℕ, ◌+◌, ◌-◌, ◌*◌, ◌<◌, ◌≤◌, Bool, true, false, cond, ◌&&◌, eqb, ltb, ◌⊎◌, List, [], ◌∷◌, length, get_or, set, Some, None, Option, sym, refl, ap, ◌∙◌, subst, inl, inr, arith}
 use Rattle.std.proofs.lemmas.Bool.{both_ways, cases_eq, eq-eqb, ne_eqb, lt-ltb, ltb-true, eqb-true, cond-true, cond-false}
 use Rattle.std.proofs.lemmas.List.{length-set, get_or-set_same, get_or-set_other}
 use Rattle.network.specs.declared.kind.NodeKind.{NodeKind}
 use Rattle.network.specs.declared.kind.NodeKind.TheVariants.{Nothing, Entrance, Exit, Mainline, Merge, Diverge}
 use Rattle.network.specs.declared.layout.Layout.{Layout}
-use Rattle.network.specs.Net.{Net, entering, leaving}
+use Rattle.network.specs.Net.{Net, entering}
 use Rattle.network.specs.Layouts.{drawn, link_of, route_at, kind_at, IsKind, is_diverge, is_exit, Leads, Right}
 use Rattle.network.specs.Drafts.{IsDiverge, IsExit, RouteFits, with_route}
 use Rattle.network.proofs.Sorts.{in₁}
-use Rattle.network.proofs.Growing.{set_reads}
 
 module _ (l : Layout) (r : Right l) where
   -- a node that a link enters is one of the network's

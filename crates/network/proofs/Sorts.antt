@@ -1,5 +1,5 @@
 -- The links that a kind names, and nodes with two that enter.
-use Rattle.std.proofs.Common.{◌≡◌, ℕ, zero, suc, ◌<◌, ◌≤◌, Bool, true, false, cond, ◌≢◌, ◌⊎◌, List, [], ◌∷◌, ◌++◌, sym, refl, ap, ◌∙◌, subst, inl, inr, append-nil, arith}
+use Rattle.std.proofs.Common.{◌≡◌, ℕ, zero, suc, ◌<◌, Bool, true, false, cond, List, [], ◌∷◌, ◌++◌, sym, refl, ap, ◌∙◌, subst, inl, inr, append-nil, arith}
 use Rattle.network.specs.Net.{Net, places, entering, leaving}
 use Rattle.network.proofs.Places.{In, entered, left_from, from_places}
 use Rattle.network.specs.declared.kind.NodeKind.{NodeKind}

@@ -1,6 +1,6 @@
 -- Walks, and nodes that are none.
-use Rattle.std.proofs.Common.{◌≡◌, ℕ, suc, ◌<◌, ◌≤◌, ◌≢◌, ◌⊎◌, List, [], ◌∷◌, Some, None, sym, refl, ap, ◌∙◌, subst, inl, inr, arith}
-use Rattle.network.specs.Net.{Net, Walk, there, along, next, leaving, Entrance, Exit}
+use Rattle.std.proofs.Common.{◌≡◌, ℕ, ◌<◌, ◌≢◌, ◌⊎◌, [], Some, None, subst, inl, inr, arith}
+use Rattle.network.specs.Net.{Net, Walk, there, along, next, Entrance, Exit}
 use Rattle.network.specs.declared.layout.Layout.{Layout}
 use Rattle.network.specs.Layouts.{drawn, Right}
 use Rattle.network.proofs.Sorts.{in₁, off₁}

@@ -1,8 +1,8 @@
 -- A layout whose links are still coming.
-use Rattle.std.specs.Prelude.{◌≡◌, ℕ, ◌<◌, ◌≤◌, length, Some, None, ◌≢◌}
+use Rattle.std.specs.Prelude.{◌≡◌, ℕ, ◌<◌, ◌≤◌, length, Some, ◌≢◌}
 use Rattle.network.specs.declared.layout.Layout.{Layout}
 use Rattle.network.specs.Net.{SoundLink}
-use Rattle.network.specs.Layouts.{drawn, link_of, route_at}
+use Rattle.network.specs.Layouts.{link_of, route_at}
 
 pub record Begun (l : Layout) (wanted : ℕ) : Type 0 where
   pub whole : length l.links ≡ 48

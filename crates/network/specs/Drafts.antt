@@ -1,5 +1,5 @@
 -- How a network grows: link by link, then route by route.
-use Rattle.std.specs.Prelude.{◌≡◌, ℕ, ◌+◌, ◌-◌, ◌<◌, ◌≤◌, Bool, true, false, cond, ◌&&◌, ◌⊎◌, List, [], ◌∷◌, length, replicate, Some, None, Ok, Err, Option, Result, ◌==◌, nat_le, slice_index_or, slice_set}
+use Rattle.std.specs.Prelude.{◌≡◌, ℕ, ◌+◌, ◌-◌, ◌<◌, ◌≤◌, Bool, true, false, cond, ◌&&◌, List, [], ◌∷◌, length, replicate, Some, None, Ok, Err, Option, Result, ◌==◌, nat_le, slice_index_or, slice_set}
 use Rattle.network.specs.declared.link.Link.{Link}
 use Rattle.network.specs.declared.kind.NodeKind.{NodeKind}
 use Rattle.network.specs.declared.kind.NodeKind.TheVariants.{Nothing, Entrance, Exit, Mainline, Merge, Diverge}

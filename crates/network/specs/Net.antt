@@ -1,7 +1,7 @@
 -- Networks: links, nodes by their degree, the next link of a vehicle, walks.
 -- Links are counted by place, from 0; the link at place i has number i + 1.
 use Rattle.network.specs.declared.link.Link.{Link}
-use Rattle.std.specs.Prelude.{◌≡◌, ℕ, zero, suc, ◌<◌, ◌≤◌, Bool, true, false, cond, ◌⊎◌, List, [], ◌∷◌, ◌++◌, Some, None, Option, ◌==◌, nat_eq}
+use Rattle.std.specs.Prelude.{◌≡◌, ℕ, zero, suc, ◌<◌, ◌≤◌, Bool, false, cond, ◌⊎◌, List, [], ◌∷◌, ◌++◌, Some, None, Option, ◌==◌, nat_eq}
 
 pub record Net : Type 0 where
   pub nodes : ℕ

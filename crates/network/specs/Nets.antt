@@ -1,5 +1,5 @@
 -- What a network is in the words of the law.
-use Rattle.std.specs.Prelude.{ℕ, ◌<◌, ◌≤◌, Some, None, Option}
+use Rattle.std.specs.Prelude.{ℕ, Some, None, Option}
 use Rattle.network.specs.declared.network.Network.{Network}
 use Rattle.network.specs.Net.{Net}
 use Rattle.network.specs.Layouts.{drawn}

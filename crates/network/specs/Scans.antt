@@ -1,5 +1,5 @@
 -- The links at a node, as they are counted.
-use Rattle.std.specs.Prelude.{◌≡◌, ℕ, ◌+◌, ◌<◌, ◌≤◌, Bool, cond, List, length, ◌==◌, slice_index}
+use Rattle.std.specs.Prelude.{◌≡◌, ℕ, ◌+◌, ◌<◌, Bool, cond, List, length, ◌==◌, slice_index}
 use Rattle.network.specs.declared.link.Link.{Link}
 use Rattle.network.specs.Net.{Net, entering, leaving}
 use Rattle.network.specs.Net as law

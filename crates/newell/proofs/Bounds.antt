@@ -7,7 +7,7 @@ use Rattle.std.proofs.ByRecursion.{All-map, All-get_or}
 use Rattle.std.proofs.lemmas.List.{get_or_append_left, get_or-append_right}
 use Rattle.std.proofs.lemmas.Bool.{cases_lt}
 use Rattle.std.proofs.lemmas.List.Sums.{count_by-le-length, length-filter}
-use Rattle.network.specs.Net.{Net, exit, mainline, merge, diverge, Sound, entering, leaving, Served}
+use Rattle.network.specs.Net.{Net, Sound, entering, leaving, Served}
 use Rattle.merge.specs.Rules.{Meaning, Askable, Proper, Lawful}
 use Rattle.newell.specs.Plain.{Curves, U, V, S, R, on, leavers, towards, arrivals, question, Law}
 use Rattle.newell.proofs.Timeline.{Timeline}

@@ -6,7 +6,7 @@ use Rattle.std.proofs.Common.{◌≡◌, ℕ, zero, suc, ◌+◌, ◌-◌, ◌<�
 use borrow.Author.Tests.{lt-leb}
 use Rattle.network.specs.Net.{Net, Sound, Entrance}
 use Rattle.merge.specs.Rules.{Meaning}
-use Rattle.newell.specs.Plain.{Curves, V, on, waiting, Law}
+use Rattle.newell.specs.Plain.{Curves, V, waiting, Law}
 use Rattle.newell.specs.History.{History, Event, book, step, ask_link, ask_entrance, ask_exit, told, refused, clock, booked, final, travelled, travel, last_travel, row_of, state_of, Filled, Asked, Answers, Follows}
 use Rattle.newell.specs.Promise.{Agree}
 use Rattle.network.proofs.Sorts.{in₁, in₂, off₁, off₂}

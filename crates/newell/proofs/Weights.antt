@@ -6,7 +6,7 @@ use Rattle.std.proofs.lemmas.List.Sums.{sum_by-append, sum_by-take-drop}
 use Rattle.std.proofs.ByRecursion.{All-map, All-append, All-take, All-drop, All-weaker}
 use Rattle.std.proofs.lemmas.List.{drop-drop, drop-append-le, drop_all}
 use Rattle.std.proofs.lemmas.Bool.{cases_lt, both_ways}
-use Rattle.network.specs.Net.{Net, Sound, Walk, there, along, entering, leaving, onward, next, is, Served, exit}
+use Rattle.network.specs.Net.{Net, Sound, Walk, there, along, entering, leaving, onward, next, is, Served}
 use Rattle.merge.specs.Rules.{Meaning}
 use Rattle.newell.specs.Plain.{Curves, U, V, R, on, leavers, towards, waiting, arrivals}
 use Rattle.newell.proofs.Timeline.{Timeline}

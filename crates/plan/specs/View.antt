@@ -1,6 +1,6 @@
 -- What a yard holds, in the words of the law.
-use Rattle.std.specs.Prelude.{◌≡◌, ℕ, ◌+◌, ◌-◌, ◌<◌, ◌≤◌, min, Option}
-use Rattle.newell.specs.Now.{RunNow, LinkNow}
+use Rattle.std.specs.Prelude.{ℕ, ◌+◌, ◌-◌, ◌≤◌, min}
+use Rattle.newell.specs.Now.{RunNow}
 use Rattle.network.specs.Net.{Net}
 use Rattle.links.specs.declared.records.Yard.{Yard}
 use Rattle.links.specs.Readings.{back}

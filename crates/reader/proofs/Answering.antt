@@ -1,8 +1,8 @@
 -- A file has one answer. Assumes nothing.
-use Rattle.std.proofs.Common.{◌≡◌, ℕ, ◌+◌, ◌<◌, ◌≤◌, ◌⊎◌, List, [], ◌∷◌, ◌++◌, length, take, drop, sym, refl, ap, ◌∙◌, subst, inl, inr, ⊎_elim, arith}
-use Rattle.std.proofs.lemmas.List.{append_assoc, drop_at, drop-drop, length-append}
+use Rattle.std.proofs.Common.{◌≡◌, ℕ, ◌+◌, ◌<◌, ◌≤◌, List, [], ◌∷◌, ◌++◌, length, drop, sym, refl, ap, ◌∙◌, subst, inl, inr, ⊎_elim, arith}
+use Rattle.std.proofs.lemmas.List.{append_assoc, drop_at, drop-drop}
 use Rattle.std.proofs.lemmas.Bool.{cases_eq, cases_order}
-use Rattle.words.specs.Tables.{Refuses, Passes}
+use Rattle.words.specs.Tables.{Refuses}
 use Rattle.words.specs.Texts.{Stands}
 use Rattle.words.specs.declared.fault.Told.{Told}
 use Rattle.words.proofs.Clean.{stands_inside}
@@ -11,7 +11,6 @@ use Rattle.network.specs.Drafts.{LowestOdd}
 use Rattle.network.specs.Net as law
 use Rattle.rows.specs.Reading.{Reads, line_checks, Refused as RefusedLine}
 use Rattle.rows.specs.Rows.{text_of}
-use Rattle.rows.specs.declared.kind.Stage.{Stage}
 use Rattle.rows.specs.declared.kind.Stage.TheVariants.{Calls}
 use Rattle.rows.specs.declared.row.Row.{Row}
 use Rattle.rows.specs.declared.row.Row.TheVariants.{Net, Link, Route, Merge, Meter, Go, Book, Step, Show}
@@ -20,7 +19,7 @@ use Rattle.reader.specs.Calls.{CallAnswer, call, ended, CallAnswers, row_of}
 use Rattle.reader.specs.Calls as calls
 use Rattle.reader.specs.declared.calls.CallRow.{CallRow}
 use Rattle.reader.specs.declared.calls.CallRow.TheVariants as called
-use Rattle.reader.specs.Checks.{Sound, Follows, file_checks, NodeTold}
+use Rattle.reader.specs.Checks.{Sound, file_checks, NodeTold}
 use Rattle.reader.specs.Files.{Upto, RefusedAt, Refused, Answer, network, fault, Answers}
 use Rattle.reader.specs.Files as files
 use Rattle.reader.specs.Laws.{OneAnswer, OneCall}

@@ -1,5 +1,5 @@
 -- What rows say is what each of them says. Assumes nothing.
-use Rattle.std.proofs.Common.{◌≡◌, ℕ, ◌+◌, ◌-◌, ◌<◌, ◌≤◌, Bool, true, false, cond, ◌&&◌, eqb, ◌⊎◌, List, [], ◌∷◌, ◌++◌, length, get_or, Some, None, Option, sym, refl, ap, ◌∙◌, subst, inl, inr, ⊎_elim, arith}
+use Rattle.std.proofs.Common.{◌≡◌, ℕ, ◌+◌, ◌-◌, ◌<◌, true, ◌&&◌, eqb, ◌⊎◌, List, [], ◌∷◌, length, get_or, Some, sym, refl, ap, ◌∙◌, subst, inl, inr, ⊎_elim, arith}
 use Rattle.std.proofs.lemmas.List.{length_push, get_or_push, get_or_append_left}
 use Rattle.std.proofs.lemmas.Bool.{both_ways, cases_Bool, cases_eq, and_parts, and_from, eq-eqb, ne_eqb, eqb-true, cond-true, cond-false}
 use Rattle.network.specs.Layouts.{blank_link}
@@ -11,8 +11,8 @@ use Rattle.rows.specs.declared.kind.Stage.TheVariants.{Start, Links, Routes, Met
 use Rattle.rows.specs.declared.row.Row.{Row}
 use Rattle.rows.specs.declared.row.Row.TheVariants.{Net, Link, Route, Merge, Meter, Go, Book, Step, Show}
 use Rattle.reader.specs.Checks.{Sound, Follows, Twice}
-use Rattle.reader.specs.Laws.{links_in, Faithful, AllFaithful}
-use Rattle.reader.specs.Said.{In, net_said, rule_said, meters_said, stage_of, said_by}
+use Rattle.reader.specs.Laws.{links_in, AllFaithful}
+use Rattle.reader.specs.Said.{In, net_said, rule_said, meters_said, stage_of}
 use Rattle.reader.proofs.Members.{net_first, first_row, start_only, meter_in, route_in, tag_of, node_of, exit_of, last_of}
 
 -- no second route or meter stands behind the first

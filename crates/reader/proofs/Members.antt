@@ -1,5 +1,5 @@
 -- What the tables of routes and meters say is what their rows say. Assumes nothing.
-use Rattle.std.proofs.Common.{◌≡◌, ℕ, ◌+◌, ◌-◌, ◌≤◌, Bool, true, false, cond, ◌&&◌, eqb, ◌⊎◌, List, [], ◌∷◌, Some, None, Option, sym, refl, ap, ◌∙◌, subst, inl, inr, ⊎_elim, arith}
+use Rattle.std.proofs.Common.{◌≡◌, ℕ, ◌+◌, ◌-◌, ◌≤◌, Bool, true, false, cond, ◌&&◌, eqb, List, [], ◌∷◌, Some, None, Option, sym, refl, ap, ◌∙◌, subst, inl, inr, ⊎_elim, arith}
 use Rattle.std.proofs.lemmas.Bool.{both_ways, cases_Bool, and_parts, and_from, eq-eqb, eqb-true, cond-true, cond-false}
 use Rattle.rows.specs.Kinds.{in_order}
 use Rattle.rows.specs.declared.kind.Kind.TheVariants as kind
@@ -8,7 +8,7 @@ use Rattle.rows.specs.declared.kind.Stage.TheVariants.{Start, Links, Routes, Met
 use Rattle.rows.specs.declared.row.Row.{Row}
 use Rattle.rows.specs.declared.row.Row.TheVariants.{Net, Link, Route, Merge, Meter, Go, Book, Step, Show}
 use Rattle.reader.specs.Checks.{Sound, Follows}
-use Rattle.reader.specs.Said.{In, net_said, meters_said, stage_of, wanted}
+use Rattle.reader.specs.Said.{In, net_said, meters_said, stage_of}
 
 -- the stage of a `net` row is the first
 pub start_only : (s : Stage) → in_order s kind.Net ≡ true → s ≡ Start

@@ -9,7 +9,7 @@ use Rattle.rows.specs.Rows.{text_of, spelled}
 use Rattle.rows.specs.declared.kind.Stage.{Stage}
 use Rattle.rows.specs.declared.kind.Stage.TheVariants.{Calls}
 use Rattle.rows.specs.declared.row.Row.{Row}
-use Rattle.reader.specs.Checks.{Follows, Sound, file_checks, NodeTold}
+use Rattle.reader.specs.Checks.{file_checks, NodeTold}
 use Rattle.reader.specs.Files.{Upto, Refused, RefusedAt}
 use Rattle.reader.specs.Heads.{Got, NoRow}
 use Rattle.reader.specs.Said.{shown, net_said, wanted, stage_of, Said, said_by}

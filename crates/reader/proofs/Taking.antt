@@ -1,13 +1,10 @@
 -- What each row of the head adds, or why it is refused. Assumes nothing.
-use Rattle.std.proofs.Common.{◌≡◌, ℕ, ◌+◌, ◌-◌, ◌<◌, ◌≤◌, Bool, true, false, cond, ◌&&◌, eqb, ltb, leb, ◌⊎◌, List, [], ◌∷◌, length, is_some, Some, None, Option, sym, refl, ap, ◌∙◌, subst, inl, inr, ⊎_elim, arith}
+use Rattle.std.proofs.Common.{◌≡◌, ℕ, ◌+◌, ◌-◌, ◌<◌, ◌≤◌, Bool, true, false, cond, ◌&&◌, eqb, ltb, leb, ◌⊎◌, List, [], ◌∷◌, length, is_some, Some, None, Option, sym, refl, ap, ◌∙◌, subst, inl, inr, arith}
 use Rattle.std.proofs.lemmas.Bool.{eq-eqb, ne_eqb, cond-true, cond-false, and_from, lt-ltb, le-leb, both_ways}
-use Rattle.words.specs.Tables.{First, Refuses, Passes}
-use Rattle.words.specs.declared.fault.Told.{Told}
 use Rattle.network.specs.Drafts.{bare_net, with_link, with_route, draft_of, LowestOdd, RouteFits, IsMerge}
 use Rattle.network.specs.Drafts as drafts
 use Rattle.network.specs.Net as network
 use Rattle.network.specs.Nets.{net_of}
-use Rattle.network.specs.declared.draft.Draft.{Draft}
 use Rattle.network.specs.declared.network.Network.{Network}
 use Rattle.network.specs.declared.link.Link.{Link as LinkData}
 use Rattle.network.proofs.Rights.{right_of, sound_of}
@@ -21,14 +18,13 @@ use Rattle.rows.specs.Rows.{text_of}
 use Rattle.rows.specs.Wants.{Ranged}
 use Rattle.rows.specs.declared.kind.Stage.{Stage}
 use Rattle.rows.specs.declared.kind.Stage.TheVariants.{Start, Links, Routes, Meters, Calls}
-use Rattle.rows.specs.declared.row.Row.{Row}
-use Rattle.rows.specs.declared.row.Row.TheVariants.{Net, Link, Route, Merge, Meter, Go, Book, Step, Show}
-use Rattle.reader.specs.Checks.{Odd, file_checks, NodeTold}
+use Rattle.rows.specs.declared.row.Row.TheVariants.{Net, Link, Route, Merge, Meter, Go}
+use Rattle.reader.specs.Checks.{Odd}
 use Rattle.reader.specs.Faults.{filed, file_told}
 use Rattle.reader.specs.Files.{Upto, Refused, numbers_of}
 use Rattle.reader.specs.Files as files
 use Rattle.reader.specs.Heads.{Got, bare, said, meters_of}
-use Rattle.reader.specs.Said.{shown, net_said, wanted, stage_of, Said, said_by, meters_said}
+use Rattle.reader.specs.Said.{net_said, wanted, Said, said_by, meters_said}
 use Rattle.reader.specs.declared.fault.FileFault.{FileFault}
 use Rattle.reader.specs.declared.fault.FileFault.TheVariants as fault
 use Rattle.reader.proofs.Members.{meter_in, meter_some, route_in, route_some}

@@ -1,24 +1,20 @@
 -- Every corridor that keeps the rules has a text that reads as it. Assumes nothing.
-use Rattle.std.proofs.Common.{◌≡◌, ℕ, zero, suc, ◌+◌, ◌-◌, ◌*◌, ◌<◌, ◌≤◌, Bool, true, false, cond, eqb, ◌⊎◌, List, [], ◌∷◌, ◌++◌, length, Some, None, Option, sym, refl, ap, ◌∙◌, subst, inl, inr, ⊎_elim, arith}
+use Rattle.std.proofs.Common.{◌≡◌, ℕ, zero, suc, ◌+◌, ◌-◌, ◌*◌, ◌<◌, ◌≤◌, Bool, cond, eqb, ◌⊎◌, List, [], ◌∷◌, ◌++◌, length, Some, None, Option, sym, refl, ap, ◌∙◌, subst, inl, inr, ⊎_elim, arith}
 use Rattle.std.proofs.lemmas.List.{length-append, take_all}
 use Rattle.std.proofs.lemmas.Bool.{cases_eq, eq-eqb, ne_eqb, cond-true, cond-false}
-use Rattle.words.specs.Tables.{Passes}
-use Rattle.words.specs.Texts.{Stands}
-use Rattle.network.specs.Drafts.{IsMerge, IsDiverge, IsExit, RouteFits, Leaving}
+use Rattle.network.specs.Drafts.{IsMerge, RouteFits}
 use Rattle.network.specs.Net as law
 use Rattle.network.specs.Net.{Net as AnyNet, places, entering, leaving}
 use Rattle.network.proofs.Places.{In as Among, entered, left_from}
 use Rattle.rows.specs.Kinds.{in_order}
 use Rattle.rows.specs.Rows.{kind_of, text_of}
-use Rattle.rows.specs.Wants.{Ranged}
 use Rattle.rows.specs.declared.kind.Stage.{Stage}
-use Rattle.rows.specs.declared.kind.Stage.TheVariants.{Start, Links, Routes, Meters, Calls}
+use Rattle.rows.specs.declared.kind.Stage.TheVariants.{Links, Routes, Meters}
 use Rattle.rows.specs.declared.row.Row.{Row}
-use Rattle.rows.specs.declared.row.Row.TheVariants.{Net, Link, Route, Merge, Meter, Go, Book, Step, Show}
+use Rattle.rows.specs.declared.row.Row.TheVariants.{Net, Link, Route, Merge, Meter, Go}
 use Rattle.rows.proofs.OneRow.{text_short}
-use Rattle.reader.specs.Checks.{Sound, Follows, Odd, file_checks}
-use Rattle.reader.specs.Files.{Upto, network, Answers}
-use Rattle.reader.specs.Laws.{SoundSaid, Agrees, TextOf, AllWritten}
+use Rattle.reader.specs.Checks.{Sound, Follows}
+use Rattle.reader.specs.Laws.{SoundSaid, AllWritten}
 use Rattle.reader.specs.Said.{In, Said, shown, net_said, rule_said, meters_said, wanted, stage_of, said_by}
 use Rattle.reader.proofs.Answering.{sound_small}
 use Rattle.reader.proofs.Faithful.{all_faithful}

@@ -1,5 +1,5 @@
 -- How a corridor file reads, from line l₀ at place p₀ on.
-use Rattle.std.specs.Prelude.{◌≡◌, ℕ, ◌+◌, ◌<◌, ◌≤◌, ◌⊎◌, List, [], ◌∷◌, length, Some, None, Option, Result, MatchResult}
+use Rattle.std.specs.Prelude.{◌≡◌, ℕ, ◌+◌, ◌<◌, ◌≤◌, ◌⊎◌, List, ◌∷◌, length, Some, None, Option, Result, MatchResult}
 use Rattle.words.specs.Tables.{Refuses}
 use Rattle.words.specs.Texts.{Stands}
 use Rattle.words.specs.declared.fault.Told.{Told}

@@ -1,5 +1,5 @@
 -- A step takes the plain run on, accepted or refused.
-use Rattle.std.proofs.Common.{ℕ, ◌<◌, ◌≤◌, List, length, Err}
+use Rattle.std.proofs.Common.{◌<◌, ◌≤◌, List, length, Err}
 use Rattle.merge.specs.Rules.{Meaning, Lawful}
 use Rattle.network.specs.Net.{Net}
 use Rattle.newell.specs.declared.records.StepRow.{StepRow}

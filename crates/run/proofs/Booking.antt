@@ -1,5 +1,5 @@
 -- Bookings, and places of links.
-use Rattle.std.proofs.Common.{◌≡◌, ℕ, zero, suc, ◌+◌, ◌<◌, ◌≤◌, ◌≢◌, List, [], ◌∷◌, ◌++◌, map, length, replicate, sym, refl, ap, ◌∙◌, subst, arith}
+use Rattle.std.proofs.Common.{◌≡◌, ℕ, zero, suc, ◌+◌, ◌<◌, ◌≤◌, ◌≢◌, List, [], ◌∷◌, ◌++◌, replicate, refl, ap, ◌∙◌, arith}
 use mathlib.Core.List.{map-append}
 use Rattle.network.specs.declared.network.Network.{Network}
 use Rattle.network.specs.Net.{Net, Entrance, Exit}
@@ -8,12 +8,11 @@ use Rattle.network.proofs.Rights.{right_of}
 use Rattle.network.proofs.Sorts.{in₁, off₁}
 use Rattle.newell.specs.declared.records.Vehicle.{Vehicle}
 use Rattle.newell.specs.History.{book, told}
-use Rattle.newell.specs.Now.{RunNow, LinkNow, Queued, Carries}
+use Rattle.newell.specs.Now.{RunNow, Queued, Carries}
 use Rattle.newell.proofs.Carried.{booking_carries}
 use Rattle.links.specs.declared.records.Yard.{Yard}
 use Rattle.links.specs.Readings.{back}
-use Rattle.links.specs.Tables.{Gauge}
-use Rattle.links.specs.Yards.{holds, size_of, gauge_of, Laid, Put}
+use Rattle.links.specs.Yards.{holds, Put}
 use Rattle.flow.specs.Flows.{exits}
 use Rattle.plan.specs.View.{view_of}
 use Rattle.step.specs.Steps.{Built}

@@ -1,10 +1,10 @@
 -- The records of a run just opened.
-use Rattle.std.proofs.Common.{◌≡◌, ℕ, zero, suc, ◌+◌, ◌-◌, ◌<◌, ◌≤◌, Bool, true, false, cond, ltb, ◌≢◌, ◌⊎◌, List, [], ◌∷◌, length, get_or, take, set, replicate, sym, refl, ap, ◌∙◌, subst, ap₂, inl, inr, ⊎_elim, suc-add, zero-add, add-one, arith, below_more, le-ltb, lt-ltb}
+use Rattle.std.proofs.Common.{◌≡◌, ℕ, zero, suc, ◌+◌, ◌-◌, ◌<◌, ◌≤◌, ltb, ◌≢◌, List, [], length, get_or, take, set, replicate, sym, refl, ap, ◌∙◌, subst, ap₂, ⊎_elim, suc-add, zero-add, add-one, arith, below_more, le-ltb, lt-ltb}
 use Rattle.std.proofs.lemmas.List.{get_or-set_same, get_or-set_other}
 use Rattle.std.proofs.lemmas.Bool.{cond-true, cond-false, cases_lt}
 use Rattle.network.specs.Net.{Net, Entrance, entering}
 use Rattle.links.specs.declared.records.LinkRecord.{LinkRecord}
-use Rattle.links.specs.Tables.{blank_record, fresh_lane, fresh_record, fresh_curve, lane_at, Gauge, gauge_in}
+use Rattle.links.specs.Tables.{blank_record, fresh_lane, fresh_curve, lane_at, Gauge, gauge_in}
 use Rattle.std.specs.List.{between}
 use Rattle.line.specs.Ring.{turned}
 use Rattle.network.proofs.Sorts.{off₁}
@@ -12,7 +12,7 @@ use Rattle.newell.specs.Now.{Opened}
 use Rattle.links.specs.declared.records.Lane.{Lane}
 use Rattle.links.specs.declared.records.Yard.{Yard}
 use Rattle.links.specs.Readings.{back, Full}
-use Rattle.links.specs.Yards.{holds, size_of, gauge_of, Laid, AllFull}
+use Rattle.links.specs.Yards.{holds, size_of, gauge_of, Laid}
 use Rattle.flow.specs.Flows.{exits}
 use Rattle.flow.proofs.Pulling.{exits_nil}
 use Rattle.plan.specs.View.{view_of}

@@ -1,5 +1,5 @@
 -- Lists of calls with their answers, and the histories that they make.
-use Rattle.std.specs.Prelude.{◌≡◌, ℕ, zero, suc, ◌<◌, ◌≤◌, ◌⊎◌, List, [], ◌∷◌, length, slice_index_or}
+use Rattle.std.specs.Prelude.{◌≡◌, ℕ, suc, ◌<◌, ◌≤◌, ◌⊎◌, List, [], ◌∷◌, length, slice_index_or}
 use Rattle.merge.specs.Rules.{Meaning}
 use Rattle.network.specs.Net.{Net}
 use Rattle.newell.specs.declared.records.StepRow.{StepRow}

@@ -1,15 +1,13 @@
 -- From what the parts of a step show to what the step makes of the run.
-use Rattle.std.proofs.Common.{◌≡◌, ℕ, zero, suc, ◌+◌, ◌-◌, ◌*◌, ◌^◌, ◌<◌, ◌≤◌, min, Bool, true, false, cond, eqb, ◌≢◌, ◌⊎◌, List, [], ◌∷◌, ◌++◌, map, length, get_or, take, drop, Some, None, Option, sym, refl, ap, ◌∙◌, subst, ap₂, inl, inr, ⊎_elim, append_assoc, append-nil, arith, length-append, length-drop, length-take, eq-eqb, ne_eqb}
-use lib.ListN.{length-map}
-use Rattle.std.specs.List.{flat_map, AllByRecursion as All}
+use Rattle.std.proofs.Common.{◌≡◌, ℕ, zero, suc, ◌+◌, ◌-◌, ◌*◌, ◌^◌, ◌<◌, ◌≤◌, Bool, true, false, cond, eqb, List, [], ◌∷◌, ◌++◌, map, length, get_or, take, drop, Some, None, Option, sym, refl, ap, ◌∙◌, subst, ap₂, append_assoc, append-nil, arith, length-append, length-drop, eq-eqb}
+use Rattle.std.specs.List.{flat_map}
 use Rattle.std.proofs.ByRecursion.{All-get_or}
-use Rattle.std.proofs.lemmas.Bool.{cases_eq, both_ways}
+use Rattle.std.proofs.lemmas.Bool.{both_ways}
 use Rattle.std.proofs.lemmas.List.{take-map, drop-map}
 use Rattle.newell.specs.declared.records.Vehicle.{Vehicle}
 use Rattle.newell.specs.declared.records.StepRow.{StepRow}
-use Rattle.network.specs.Net.{Net, Sound, places, entering, leaving, next}
+use Rattle.network.specs.Net.{Net, Sound, places}
 use Rattle.merge.specs.Rules.{Meaning, Lawful}
-use Rattle.newell.specs.Plain.{towards}
 use Rattle.newell.specs.History.{final}
 use Rattle.newell.specs.Now.{RunNow, sends, takes, arrive, leave, Passes, Moved, RowsNow, AskedNow, Safe, Reached}
 use Rattle.newell.specs.Now as now
@@ -18,11 +16,10 @@ use Rattle.newell.proofs.Carried.{outgoing, incoming}
 use Rattle.network.specs.declared.network.Network.{Network}
 use Rattle.network.specs.Nets.{net_of}
 use Rattle.network.specs.Layouts.{link_of}
-use Rattle.network.proofs.Rights.{right_of, sound_of}
+use Rattle.network.proofs.Rights.{right_of}
 use Rattle.network.proofs.Nexts.{next_in}
 use Rattle.links.specs.declared.records.Yard.{Yard}
-use Rattle.links.specs.Yards.{holds, size_of, gauge_of, spots_of, Laid, AllFull}
-use Rattle.links.proofs.Changing.{fits}
+use Rattle.links.specs.Yards.{holds, gauge_of, spots_of, Laid, AllFull}
 use Rattle.flow.specs.Flows.{going, stamped, exits, nobody, came_by, Shifted, Shiftable}
 use Rattle.flow.specs.Flows as flows
 use Rattle.flow.proofs.Going.{going_nobody, stamped_length}

@@ -1,5 +1,5 @@
 -- The readings and the row of a link behind a step.
-use Rattle.std.specs.Prelude.{◌≡◌, ℕ, ◌+◌, ◌-◌, List, Option}
+use Rattle.std.specs.Prelude.{◌≡◌, ℕ, ◌+◌, ◌-◌, Option}
 use Rattle.newell.specs.declared.records.StepRow.{StepRow}
 use Rattle.links.specs.declared.records.Yard.{Yard}
 use Rattle.links.specs.Readings.{back, Next}

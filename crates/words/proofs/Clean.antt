@@ -1,5 +1,5 @@
 -- A line written of clean words is cut into them again, and passes the checks of words. Assumes nothing.
-use Rattle.std.proofs.Common.{◌≡◌, ℕ, ◌+◌, ◌-◌, ◌^◌, ◌<◌, ◌≤◌, Bool, true, false, ◌&&◌, ◌||◌, leb, ◌⊎◌, List, [], ◌∷◌, ◌++◌, length, get_or, take, drop, decimal, sym, refl, ap, ◌∙◌, subst, inl, inr, ⊎_elim, arith}
+use Rattle.std.proofs.Common.{◌≡◌, ℕ, ◌+◌, ◌-◌, ◌^◌, ◌<◌, ◌≤◌, Bool, true, ◌&&◌, ◌||◌, leb, ◌⊎◌, List, [], ◌∷◌, ◌++◌, length, get_or, drop, decimal, sym, refl, ap, ◌∙◌, subst, inl, inr, ⊎_elim, arith}
 use Rattle.std.specs.Int.{IsInRange}
 use Rattle.std.specs.List.{AllByRecursion as All}
 use Rattle.std.proofs.lemmas.Fmt.{decimal_nonempty, decimal_is_IsNumeral}
@@ -7,9 +7,9 @@ use Rattle.std.proofs.ByRecursion.{All-from_get_or, All-get_or}
 use Rattle.std.proofs.lemmas.List.Prefix.{at_reads}
 use Rattle.std.proofs.lemmas.List.{append_assoc, take-append-drop, length-append, length-drop, length-take}
 use Rattle.std.proofs.lemmas.Str.Parse.{digit_at}
-use Rattle.std.proofs.lemmas.Bool.{and_parts, or_cases, leb-true, cases_eq}
-use Rattle.words.specs.Lines.{Spot, spot, line, words, words_at, end_at, Plain, Strange, Empty, word_checks}
-use Rattle.words.specs.Tables.{Never, Passes}
+use Rattle.std.proofs.lemmas.Bool.{and_parts, or_cases, leb-true}
+use Rattle.words.specs.Lines.{Spot, line, words, words_at, end_at, Plain, Empty, word_checks}
+use Rattle.words.specs.Tables.{Passes}
 use Rattle.words.specs.Texts.{texts, spaced, line_of, Stands}
 use Rattle.words.proofs.Cuts.{words_space, words_other, grow, line_on, line_stop}
 

@@ -1,4 +1,4 @@
-use Rattle.std.proofs.Common.{◌≡◌, [], sym, refl, ap, ◌∙◌, subst, rules}
+use Rattle.std.proofs.Common.{[], sym, rules}
 use denote.Enum.Bare.{same_true, same_false}
 use Rattle.rows.specs.contracts.kind.Kind.{the_type}
 use Rattle.std.proofs.lemmas.Result.{err_from_is_err_and}

@@ -1,4 +1,4 @@
-use Rattle.std.proofs.Common.{◌≡◌, sym, refl, ap, ◌∙◌, arith, rules}
+use Rattle.std.proofs.Common.{ap, arith, rules}
 use Rattle.words.specs.Lines.{spot}
 use Rattle.rows.specs.declared.fault.RowFault.TheVariants.{Value}
 use Rattle.fields.proofs.Series.{no_fit, name_no_fit}

@@ -1,4 +1,4 @@
-use Rattle.std.proofs.Common.{◌≡◌, ℕ, ◌+◌, ◌<◌, ◌≤◌, List, map, length, take, drop, sym, refl, ap, ◌∙◌, subst, arith, length-set}
+use Rattle.std.proofs.Common.{◌≡◌, ℕ, ◌+◌, ◌<◌, List, map, length, take, drop, sym, refl, ap, ◌∙◌, subst, arith, length-set}
 use Rattle.std.proofs.lemmas.List.{length-map}
 use Rattle.std.proofs.lemmas.Result.{err_from_is_err_and}
 use Rattle.words.specs.Lines.{end_at}
@@ -7,7 +7,7 @@ use Rattle.rows.specs.Rows.{written}
 use Rattle.rows.specs.Wants.{Allowed}
 use Rattle.rows.specs.declared.fault.RowFault.TheVariants.{Value}
 use Rattle.fields.specs.Taking.{want, numbered}
-use Rattle.fields.proofs.Series.{Going, going_start, going_more, going_on, going_bad, going_done, wanted, wanted_so_far}
+use Rattle.fields.proofs.Series.{going_start, going_more, going_on, going_bad, going_done, wanted, wanted_so_far}
 use Rattle.fields.proofs.fields.numbers.Goals as goal
 
 pub number_in-requires : goal.number_in-requires

@@ -1,4 +1,4 @@
-use Rattle.std.proofs.Common.{◌≡◌, ℕ, ◌<◌, ◌≤◌, length, get_or, take, None}
+use Rattle.std.proofs.Common.{◌≡◌, ℕ, ◌<◌, ◌≤◌, get_or, take, None}
 use Rattle.newell.specs.History.{final}
 use Rattle.network.specs.Nets.{net_of}
 use Rattle.links.specs.Yards.{holds}

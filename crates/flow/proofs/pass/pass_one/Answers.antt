@@ -1,8 +1,8 @@
-use Rattle.std.proofs.Common.{◌≡◌, ◌+◌, ◌-◌, ◌<◌, ◌≤◌, ◌≢◌, length, Some, sym, refl, ap, ◌∙◌, subst, arith, rules}
+use Rattle.std.proofs.Common.{length, sym, refl, ap, ◌∙◌, arith}
 use Rattle.newell.specs.declared.records.Vehicle.{Vehicle}
 use Rattle.network.specs.Net.{next}
 use Rattle.network.specs.Nets.{net_of}
-use Rattle.links.specs.Yards.{holds, size_of}
+use Rattle.links.specs.Yards.{holds}
 use Rattle.network.proofs.Rights.{right_of}
 use Rattle.flow.proofs.Passing.{leads, sent_one, roomy_of, gone_of}
 use Rattle.flow.proofs.Fronts.{none_leads}

@@ -1,8 +1,7 @@
-use Rattle.std.proofs.Common.{◌≡◌, ◌<◌, ◌≤◌, length, take, sym, refl, ap, ◌∙◌, subst, arith, rules}
-use Rattle.newell.specs.declared.records.Vehicle.{Vehicle}
+use Rattle.std.proofs.Common.{◌≡◌, ◌<◌, take, ◌∙◌, subst, arith, rules}
 use Rattle.network.specs.Nets.{net_of}
 use Rattle.network.proofs.Nexts.{next_in, next_other}
-use Rattle.links.specs.Yards.{holds, size_of}
+use Rattle.links.specs.Yards.{holds}
 use Rattle.network.proofs.Rights.{right_of}
 use Rattle.flow.specs.Flows.{Sent}
 use Rattle.flow.proofs.Passing.{sent_none, left_some, left_room, sent_again, last_is}

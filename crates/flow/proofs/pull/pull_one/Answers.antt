@@ -1,8 +1,7 @@
-use Rattle.std.proofs.Common.{◌≡◌, ◌+◌, ◌<◌, ◌≢◌, [], ◌∷◌, ◌++◌, length, sym, refl, ap, ◌∙◌, subst, arith}
+use Rattle.std.proofs.Common.{◌≡◌, ◌+◌, ◌≢◌, [], ◌∷◌, ◌++◌, length, ap, subst, arith}
 use Rattle.line.specs.Spots.{wrote}
 use Rattle.newell.specs.declared.records.Vehicle.{Vehicle}
-use Rattle.links.specs.Yards.{holds, spots_of, size_of, Put}
-use Rattle.network.specs.Net.{Net}
+use Rattle.links.specs.Yards.{holds, spots_of, Put}
 use Rattle.flow.proofs.Fronts.{none_leads}
 use Rattle.flow.proofs.Pulling.{pulled_one}
 use Rattle.flow.proofs.pull.pull_one.Goals as goal

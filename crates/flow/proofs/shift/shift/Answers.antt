@@ -1,9 +1,8 @@
-use Rattle.std.proofs.Common.{◌≡◌, ℕ, ◌+◌, ◌<◌, ◌≤◌, length, get_or, take, sym, ◌∙◌, subst, arith, length-take}
+use Rattle.std.proofs.Common.{ℕ, ◌<◌, get_or, ◌∙◌, subst, arith}
 use Rattle.network.specs.Nets.{net_of}
 use Rattle.network.proofs.Nexts.{next_in}
 use Rattle.network.proofs.Rights.{right_of}
 use Rattle.links.proofs.Changing.{fits}
-use Rattle.links.specs.Yards.{holds}
 use Rattle.flow.specs.Flows.{PulledAll}
 use Rattle.flow.proofs.Shifting.{sendable, shifted, times_kept}
 use Rattle.flow.proofs.shift.shift.Goals as goal

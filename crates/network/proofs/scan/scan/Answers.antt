@@ -1,4 +1,4 @@
-use Rattle.std.proofs.Common.{◌≡◌, ℕ, eqb, sym, refl, ap, ◌∙◌, arith, rules}
+use Rattle.std.proofs.Common.{eqb, ap}
 use Rattle.network.specs.Layouts.{link_of}
 use Rattle.network.specs.Scans.{end_of}
 use Rattle.network.proofs.Counting.{few_more, few_count}

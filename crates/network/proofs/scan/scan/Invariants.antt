@@ -1,4 +1,4 @@
-use Rattle.std.proofs.Common.{ℕ, ◌<◌, ◌≤◌, eqb}
+use Rattle.std.proofs.Common.{◌≤◌, eqb}
 use Rattle.network.specs.Net.{places}
 use Rattle.network.specs.Layouts.{link_of}
 use Rattle.network.specs.Scans.{IsFew, end_of}

@@ -1,4 +1,4 @@
-use Rattle.std.proofs.Common.{◌≡◌, ℕ, ◌+◌, ◌<◌, ◌≤◌, length, get_or, sym, refl, ap, ◌∙◌, subst, arith, rules}
+use Rattle.std.proofs.Common.{get_or, arith}
 use Rattle.network.specs.Nets.{net_of}
 use Rattle.network.proofs.Rights.{right_of}
 use Rattle.plan.specs.View.{view_of}

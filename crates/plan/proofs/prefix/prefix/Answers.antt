@@ -1,4 +1,4 @@
-use Rattle.std.proofs.Common.{◌≡◌, ℕ, ◌+◌, ◌-◌, ◌<◌, ◌≤◌, ◌⊎◌, length, sym, refl, ap, ◌∙◌, subst, inl, inr, ⊎_elim, arith}
+use Rattle.std.proofs.Common.{◌<◌, length, inl, inr, ⊎_elim, arith}
 use Rattle.network.specs.Nets.{net_of}
 use Rattle.links.specs.Yards.{holds}
 use Rattle.plan.specs.View.{view_of}

@@ -1,4 +1,4 @@
-use Rattle.std.proofs.Common.{◌≡◌, ℕ, ◌-◌, ◌<◌, ◌≤◌, length, take}
+use Rattle.std.proofs.Common.{◌≡◌, ◌-◌, ◌≤◌, length, take}
 use Rattle.newell.specs.Plain.{towards}
 use Rattle.network.specs.Nets.{net_of}
 use Rattle.links.specs.Yards.{holds}

@@ -1,4 +1,4 @@
-use Rattle.std.proofs.Common.{◌≡◌, refl}
+use Rattle.std.proofs.Common.{refl}
 use Rattle.rows.specs.declared.row.Row.TheVariants.{Net}
 use Rattle.rows.specs.declared.kind.Stage.TheVariants.{Start}
 use Rattle.std.proofs.lemmas.Result.{err_from_is_err_and}

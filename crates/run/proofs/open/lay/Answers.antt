@@ -1,9 +1,9 @@
-use Rattle.std.proofs.Common.{◌≡◌, ℕ, ◌+◌, ◌<◌, List, length, get_or, sym, ap, ◌∙◌, ap₂, arith, rules}
+use Rattle.std.proofs.Common.{◌≡◌, ◌<◌, List, length, get_or, ap, ◌∙◌, ap₂, arith, rules}
 use Rattle.links.specs.declared.records.LinkRecord.{LinkRecord}
 use Rattle.std.proofs.lemmas.List.{length-set}
 use Rattle.network.specs.Nets.{net_of}
 use Rattle.links.specs.Tables.{blank_record, fresh_lane, fresh_record}
-use Rattle.run.specs.Opens.{offset, fresh_at}
+use Rattle.run.specs.Opens.{fresh_at}
 use Rattle.run.proofs.Laying.{offset_none, offset_road, offset_queue, fresh_more}
 use Rattle.run.proofs.open.lay.Goals as goal
 

@@ -1,4 +1,4 @@
-use Rattle.std.proofs.Common.{◌≡◌, refl, ap, subst, arith, rules}
+use Rattle.std.proofs.Common.{ap, arith, rules}
 use Rattle.network.specs.declared.network.Network.{Network}
 use Rattle.network.specs.Nets.{net_of}
 use Rattle.run.specs.Stores.{view_in}

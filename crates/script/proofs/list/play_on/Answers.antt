@@ -1,5 +1,5 @@
-use Rattle.std.proofs.Common.{◌≡◌, ℕ, ◌+◌, ◌<◌, ◌≤◌, ◌≢◌, [], length, refl, ap, ◌∙◌, arith, rules}
-use Rattle.std.proofs.lemmas.List.{get_or_read, get_or_default, get_or-set_other}
+use Rattle.std.proofs.Common.{◌<◌, ◌≢◌, [], length, refl, ap, ◌∙◌, arith}
+use Rattle.std.proofs.lemmas.List.{get_or_default, get_or-set_other}
 use Rattle.network.specs.declared.network.Network.{Network}
 use Rattle.network.specs.Nets.{net_of}
 use Rattle.run.specs.Stores.{view_in}

@@ -1,6 +1,5 @@
-use Rattle.std.proofs.Common.{◌≡◌, ℕ, ◌+◌, ◌<◌, ◌≤◌, length, get_or, None, sym, refl, ap, ◌∙◌, subst, arith}
+use Rattle.std.proofs.Common.{get_or, None, ◌∙◌, arith}
 use Rattle.network.proofs.Rights.{right_of}
-use Rattle.links.specs.Yards.{AllFull}
 use Rattle.step.proofs.Stepping.{readable, plannable, shiftable, after_more, after_small, advanced, built_again, full_on}
 use Rattle.step.proofs.advance.advance.Goals as goal
 

@@ -1,6 +1,5 @@
-use Rattle.std.proofs.Common.{◌≡◌, ℕ, ◌+◌, ◌<◌, ◌≤◌, ◌≢◌, length, get_or, sym, refl, ap, ◌∙◌, arith}
+use Rattle.std.proofs.Common.{◌≡◌, ◌<◌, ◌≢◌, length, refl, ap, ◌∙◌, arith}
 use Rattle.std.proofs.lemmas.List.{get_or-set_other}
-use Rattle.newell.specs.declared.records.StepRow.{StepRow}
 use Rattle.links.specs.Yards.{holds}
 use Rattle.step.proofs.Noting.{still_none, still_more, off_same, on_same, note_more}
 use Rattle.step.proofs.note.note_all.Goals as goal

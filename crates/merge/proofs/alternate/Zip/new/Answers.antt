@@ -1,4 +1,4 @@
-use Rattle.std.proofs.Common.{◌≡◌, ap, ◌∙◌}
+use Rattle.std.proofs.Common.{ap, ◌∙◌}
 use Rattle.merge.specs.declared.alternate.Leg.TheVariants.{First}
 use Rattle.merge.specs.Turns.{zip_meaning, turns_of}
 use Rattle.merge.proofs.Places.{all_same}

@@ -1,4 +1,4 @@
-use Rattle.std.proofs.Common.{◌⊎◌, inl, inr}
+use Rattle.std.proofs.Common.{inl, inr}
 use Rattle.network.proofs.Rights.{right_of}
 use Rattle.network.proofs.Walking.{no_exit}
 use Rattle.network.proofs.network.Network.exit.Goals as goal

@@ -1,4 +1,4 @@
-use Rattle.std.proofs.Common.{false, [], ◌∷◌, refl, inl, inr}
+use Rattle.std.proofs.Common.{false, [], refl, inl, inr}
 use Rattle.std.proofs.lemmas.Bool.{both_ways}
 use Rattle.network.proofs.Rights.{right_of}
 use Rattle.network.proofs.Routing.{outside}

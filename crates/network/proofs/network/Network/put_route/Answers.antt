@@ -1,4 +1,4 @@
-use Rattle.std.proofs.Common.{refl, arith}
+use Rattle.std.proofs.Common.{arith}
 use Rattle.network.proofs.Rights.{right_of}
 use Rattle.network.proofs.Routing.{fits_in, routed_draws, right_routed}
 use Rattle.network.proofs.network.Network.put_route.Goals as goal

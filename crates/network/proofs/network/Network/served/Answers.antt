@@ -1,5 +1,5 @@
-use Rattle.std.proofs.Common.{◌≡◌, ℕ, suc, ◌<◌, ◌≤◌, true, false, ◌≢◌, sym, refl, ap, ◌∙◌, subst, arith}
-use Rattle.network.specs.Net.{Walk, there, along}
+use Rattle.std.proofs.Common.{suc, true, false, sym, refl, ◌∙◌, arith}
+use Rattle.network.specs.Net.{there, along}
 use Rattle.std.proofs.lemmas.Bool.{both_ways}
 use Rattle.network.specs.Nets.{net_of}
 use Rattle.network.proofs.Nexts.{next_in}

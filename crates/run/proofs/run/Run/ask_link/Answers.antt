@@ -1,4 +1,4 @@
-use Rattle.std.proofs.Common.{◌≡◌, ℕ, ◌+◌, ◌-◌, ◌<◌, ◌≤◌, ◌⊎◌, sym, ap, ◌∙◌, subst, inl, inr, arith}
+use Rattle.std.proofs.Common.{◌≡◌, ◌+◌, ◌-◌, sym, subst, inl, inr, arith}
 use Rattle.newell.specs.declared.records.LinkState.{LinkState}
 use Rattle.newell.specs.History.{ask_link, told}
 use Rattle.newell.specs.Now.{Carries, state_now}

@@ -1,4 +1,4 @@
-use Rattle.std.proofs.Common.{◌≡◌, ℕ, ◌+◌, ◌<◌, ◌≤◌, [], sym, refl, subst, arith}
+use Rattle.std.proofs.Common.{◌+◌, [], sym, refl, subst, arith}
 use Rattle.newell.specs.Now.{Reached}
 use Rattle.newell.proofs.Carried.{reached_on}
 use Rattle.network.specs.declared.network.Network.{Network}

@@ -1,4 +1,4 @@
-use Rattle.std.proofs.Common.{◌≡◌, ℕ, ◌+◌, ◌<◌, ◌≤◌, ◌⊎◌, [], sym, refl, ap, ◌∙◌, subst, inl, inr, arith}
+use Rattle.std.proofs.Common.{◌+◌, ◌<◌, [], sym, ◌∙◌, subst, arith}
 use Rattle.network.specs.Net.{Walk, Exit}
 use Rattle.network.specs.Nets.{net_of}
 use Rattle.network.proofs.Sorts.{in₁, off₁}

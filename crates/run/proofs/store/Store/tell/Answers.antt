@@ -1,4 +1,4 @@
-use Rattle.std.proofs.Common.{◌≤◌, ap, arith}
+use Rattle.std.proofs.Common.{ap, arith}
 use Rattle.links.specs.Readings.{back}
 use Rattle.links.specs.Yards.{gauge_of}
 use Rattle.network.specs.Nets.{net_of}

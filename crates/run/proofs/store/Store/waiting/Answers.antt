@@ -1,4 +1,4 @@
-use Rattle.std.proofs.Common.{◌≡◌, ℕ, ◌+◌, sym, ◌∙◌, subst}
+use Rattle.std.proofs.Common.{◌+◌, sym, ◌∙◌, subst}
 use Rattle.network.specs.Nets.{net_of}
 use Rattle.links.specs.Yards.{holds}
 use Rattle.flow.proofs.Pulling.{exits_length}
