@@ -1,7 +1,7 @@
 -- The rules are lawful, and a lawful meaning goes on lawful.
 use Rattle.std.specs.Prelude.{ℕ, Bool, true, false, cond, List, ◌∷◌, ◌==◌}
 use Rattle.std.proofs.Common.{arith}
-use Rattle.std.specs.List.{AllByRecursion as All}
+use Rattle.std.specs.List.{AllByRecursion}
 use Rattle.merge.specs.declared.question.Question.{Question}
 use Rattle.merge.specs.Rules.{Meaning, after, Lawful, Proper, Askable, alike}
 use Rattle.merge.specs.Sharing.{fair_meaning}
@@ -40,7 +40,7 @@ chosen_lawful (ByFair x) = fair_lawful
 chosen_lawful (ByRamp x) = ramp_lawful
 chosen_lawful (ByZip x) = zip_lawful (turns_of x.turns)
 
-past_askable : (b : Bool) (q : Question) (past : List Question) → Askable q → All Askable past → All Askable (cond b (q ∷ past) past)
+past_askable : (b : Bool) (q : Question) (past : List Question) → Askable q → AllByRecursion Askable past → AllByRecursion Askable (cond b (q ∷ past) past)
 past_askable true q past h k = (h, k)
 past_askable false q past h k = k
 

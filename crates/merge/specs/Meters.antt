@@ -2,7 +2,7 @@
 use Rattle.std.specs.Prelude.{◌≡◌, ℕ, ◌≤◌, Bool, true, false, cond, List, [], ◌∷◌, map, Some, None, Option, ◌==◌, refl}
 use Rattle.std.proofs.Common.{sym, ◌∙◌, ap, arith}
 use Rattle.std.proofs.Math.Path.{fun_ext}
-use Rattle.std.specs.List.{AllByRecursion as All}
+use Rattle.std.specs.List.{AllByRecursion}
 use Rattle.std.proofs.lemmas.Bool.{eqb-true}
 use Rattle.std.proofs.lemmas.Bool.Decides.{nat_tests}
 use Rattle.merge.specs.declared.question.Question.{Question}
@@ -17,7 +17,7 @@ cut_limit_le (Some g) clock l = grind (arith, nat_tests)
 cut_to_askable : (l : ℕ) (q : Question) → Askable q → Askable (cut_to l q)
 cut_to_askable l q h = record { clock = h.clock; s1 = h.s1; s2 = omega arith; r = h.r; q1 = h.q1; q2 = h.q2 }
 
-passed_askable : (gates : ℕ → Option Gate) (below : ℕ → ℕ → ℕ × ℕ) (n : ℕ) (past : List Question) → All Askable past → All Askable (map (passed_on gates below n) past)
+passed_askable : (gates : ℕ → Option Gate) (below : ℕ → ℕ → ℕ × ℕ) (n : ℕ) (past : List Question) → AllByRecursion Askable past → AllByRecursion Askable (map (passed_on gates below n) past)
 passed_askable gates below n [] h = h
 passed_askable gates below n (q ∷ past) h = (cut_to_askable _ q h.0, passed_askable gates below n past h.1)
 

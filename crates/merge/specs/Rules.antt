@@ -1,6 +1,6 @@
 -- What a merge rule means, whatever its type, and the law that every rule keeps.
 use Rattle.std.specs.Prelude.{◌≡◌, ℕ, ◌+◌, ◌^◌, ◌<◌, ◌≤◌, min, cond, List, ◌∷◌, ◌==◌}
-use Rattle.std.specs.List.{AllByRecursion as All}
+use Rattle.std.specs.List.{AllByRecursion}
 use Rattle.merge.specs.declared.question.Question.{Question}
 
 -- The limits that a rule tells at a node and a clock, and the split that it answers at a node behind
@@ -34,7 +34,7 @@ pub record Proper (l : ℕ × ℕ) (q : Question) (g : ℕ × ℕ) : Type 0 wher
 
 -- Every split of a meaning is proper under the limits that it tells, and these fit their type.
 pub record Lawful (m : Meaning) : Type 0 where
-  pub splits : (node : ℕ) (past : List Question) (q : Question) → node < 2 ^ 16 → All Askable past → Askable q
+  pub splits : (node : ℕ) (past : List Question) (q : Question) → node < 2 ^ 16 → AllByRecursion Askable past → Askable q
       → Proper (m.limits node q.clock) q (m.splits node past q)
   pub first_limit : (node clock : ℕ) → node < 2 ^ 16 → clock < 2 ^ 32 → (m.limits node clock).0 ≤ 65535
   pub second_limit : (node clock : ℕ) → node < 2 ^ 16 → clock < 2 ^ 32 → (m.limits node clock).1 ≤ 65535

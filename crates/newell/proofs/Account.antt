@@ -1,7 +1,7 @@
 -- What was booked, waits, is on links or was spent: the account of a weight; and that of each exit.
 use Rattle.newell.specs.declared.records.Vehicle.{Vehicle}
 use Rattle.std.proofs.Common.{◌≡◌, ℕ, zero, suc, ◌+◌, ◌-◌, ◌<◌, ◌≤◌, cond, eqb, List, [], ◌∷◌, ◌++◌, length, take, drop, Some, None, sum_by, Option, sym, refl, ap, ◌∙◌, subst, inl, add-one, arith, length-append, length-drop, length-take, eq-eqb, ne_eqb}
-use Rattle.std.specs.List.{AllByRecursion as All}
+use Rattle.std.specs.List.{AllByRecursion}
 use Rattle.std.proofs.lemmas.List.Sums.{sum_by-append}
 use Rattle.std.proofs.lemmas.List.{drop-append-le, append-nil}
 use Rattle.network.specs.Net.{Net, Sound, Walk, there, along, next, onward, entering, leaving, Exit, Served}
@@ -69,7 +69,7 @@ module _ (net : Net) (sound : Sound net) (c : Curves) (T : ℕ) (booked : ℕ �
           let y : booked (t + 1) (net.link j).from ≡ B = grown ∙ ap {B = List ℕ} (λ ys. B ++ ys) z ∙ append-nil B in
           rw (y, z) (omega arith)
 
-      served : All (λ x. (n : ℕ) × Served net (net.link j).from x n) (booked (t + 1) (net.link j).from)
+      served : AllByRecursion (λ x. (n : ℕ) × Served net (net.link j).from x n) (booked (t + 1) (net.link j).from)
       served = lawful.served (t + 1) (net.link j).from (omega arith)
 
       go : Start net j → Goal
@@ -126,7 +126,7 @@ module _ (net : Net) (sound : Sound net) (c : Curves) (T : ℕ) (booked : ℕ �
     released_is : (t : ℕ) → t < T → released net c (λ i x. last (next net i x) (for X i x)) t + V net c g t ≡ V net c g (t + 1)
     unfolding released
     released_is t l =
-        let bound : (i : ℕ) → i < net.links → All (λ (v : Vehicle). Bound net h i v.exit) (leavers net c i t) = λ i k.
+        let bound : (i : ℕ) → i < net.links → AllByRecursion (λ (v : Vehicle). Bound net h i v.exit) (leavers net c i t) = λ i k.
         all_part (λ (v : Vehicle). Bound net h i v.exit) (V net c i (t + 1) - V net c i t) (V net c i t) (c.came i t) (came_bound net sound c T booked m lawful h most i t k (omega arith)) in
         let a = total_one net.links (λ i. sum_by (λ v. last (next net i v.exit) (for X i v.exit)) (leavers net c i t)) g ends
         (λ i k d. sum_ext _ (λ v. 0) (λ (v : Vehicle). Bound net h i v.exit) (leavers net c i t) (λ v b. elsewhere v.exit b.1 k d) (bound i k) ∙ sum_none (leavers net c i t)) in

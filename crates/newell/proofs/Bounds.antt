@@ -2,7 +2,7 @@
 use Rattle.newell.specs.declared.records.Vehicle.{Vehicle}
 use Rattle.std.proofs.Common.{◌≡◌, ℕ, zero, suc, ◌+◌, ◌-◌, ◌<◌, ◌≤◌, ◌⊎◌, List, [], ◌∷◌, ◌++◌, map, length, get_or, take, sym, refl, ap, ◌∙◌, subst, inl, inr, le_trans, add-zero, add-suc, add-one, arith, length-append, length-drop, length-take}
 use lib.ListN.{length-map}
-use Rattle.std.specs.List.{AllByRecursion as All}
+use Rattle.std.specs.List.{AllByRecursion}
 use Rattle.std.proofs.ByRecursion.{All-map, All-get_or}
 use Rattle.std.proofs.lemmas.List.{get_or_append_left, get_or-append_right}
 use Rattle.std.proofs.lemmas.Bool.{cases_lt}
@@ -14,7 +14,7 @@ use Rattle.newell.proofs.Timeline.{Timeline}
 use Rattle.network.proofs.Places.{In, entered, left_from, End, exits, passes, first_leg, second_leg, branches, Start, begins, follows, joins, first_branch, second_branch, end, start}
 
 -- nobody is booked where links enter
-pub none_booked : (net : Net) (e i : ℕ) (is : List ℕ) (xs : List ℕ) → entering net e ≡ i ∷ is → All (λ x. (n : ℕ) × Served net e x n) xs → xs ≡ []
+pub none_booked : (net : Net) (e i : ℕ) (is : List ℕ) (xs : List ℕ) → entering net e ≡ i ∷ is → AllByRecursion (λ x. (n : ℕ) × Served net e x n) xs → xs ≡ []
 none_booked net e i is [] h k = refl
 none_booked net e i is (x ∷ xs) h k = let r = k.0.1.1.0 in let z : [] ≡ i ∷ is = sym r ∙ h in let q : [] ≡ x ∷ xs = cc in sym q
 
@@ -34,7 +34,7 @@ proper net sound c m keeps n i i' j t b e l =
     keeps.splits n [] (question net c i i' j t) (omega (arith, p.1, q, sound.nodes_most)) tt (askable net sound c n i i' j t b e l)
 
 module _ (net : Net) (sound : Sound net) (c : Curves) (booked : ℕ → List ℕ) (m : Meaning) (t : ℕ)
-    (law : Law net c booked m t) (keeps : Lawful m) (early : t < 1000000) (served : (e : ℕ) → All (λ x. (n : ℕ) × Served net e x n) (booked e)) where
+    (law : Law net c booked m t) (keeps : Lawful m) (early : t < 1000000) (served : (e : ℕ) → AllByRecursion (λ x. (n : ℕ) × Served net e x n) (booked e)) where
   -- a link sends at most S
   pub sends : (i : ℕ) → i < net.links → (k : ℕ) × (V net c i (t + 1) ≡ V net c i t + k) × (k ≤ S net c i t)
   sends i h = go (end net sound i h)
@@ -151,10 +151,10 @@ module _ (net : Net) (sound : Sound net) (c : Curves) (T : ℕ) (booked : ℕ �
     pub now : v.since ≤ t
 
   -- the prefix of those that came on by an earlier clock
-  pub earlier : (i t : ℕ) → i < net.links → t < T → (vs : List Vehicle) × (c.came i (t + 1) ≡ c.came i t ++ vs) × All (λ v. v.since ≡ t + 1) vs
+  pub earlier : (i t : ℕ) → i < net.links → t < T → (vs : List Vehicle) × (c.came i (t + 1) ≡ c.came i t ++ vs) × AllByRecursion (λ v. v.since ≡ t + 1) vs
   earlier i t h l = (_, (lawful.law t l).arrive i h, All-map _ _ _ (all_true _))
     where
-      all_true : (xs : List ℕ) → All (λ x. t + 1 ≡ t + 1) xs
+      all_true : (xs : List ℕ) → AllByRecursion (λ x. t + 1 ≡ t + 1) xs
       all_true [] = tt
       all_true (x ∷ xs) = (refl, all_true xs)
 
@@ -162,7 +162,7 @@ module _ (net : Net) (sound : Sound net) (c : Curves) (T : ℕ) (booked : ℕ �
   since i zero k d h l q = absurd (omega (arith, ap length (lawful.new_came i h)))
   since i (suc t) k d h l q = rw (← add-one t) (go (cases_lt k (U net c i t)) (since i t k d h (omega arith)))
     where
-      r : (vs : List Vehicle) × (c.came i (t + 1) ≡ c.came i t ++ vs) × All (λ v. v.since ≡ t + 1) vs
+      r : (vs : List Vehicle) × (c.came i (t + 1) ≡ c.came i t ++ vs) × AllByRecursion (λ v. v.since ≡ t + 1) vs
       r = earlier i t h l
 
       count : U net c i (t + 1) ≡ U net c i t + length r.0

@@ -7,7 +7,7 @@ use mathlib.Core.Logic.{∥∥₁_elim, ∥∥₁_prop}
 use native.Mathlib.Bridge.{le_prop}
 use lib.ListN.{length-map}
 use Rattle.std.proofs.lemmas.Bool.{cases_eq}
-use Rattle.std.specs.List.{AllByRecursion as All}
+use Rattle.std.specs.List.{AllByRecursion}
 use Rattle.std.proofs.lemmas.List.{drop-drop, drop-append-le, append-nil}
 use Rattle.network.specs.Net.{Net, Sound, Entrance, Served, entering, leaving}
 use Rattle.merge.specs.Rules.{Meaning, Lawful}
@@ -154,7 +154,7 @@ module _ (net : Net) (sound : Sound net) (h : History) (c : Curves) (f : Follows
   }
 
   -- the step is answered, and the plain run goes on
-  served : (e : ℕ) → All (λ x. (n : ℕ) × Served net e x n) (booked h (clock h) e)
+  served : (e : ℕ) → AllByRecursion (λ x. (n : ℕ) × Served net e x n) (booked h (clock h) e)
   served e = (timeline net c h f).served (clock h) e (omega arith)
 
   -- a link sends at most what it may send, and takes at most what it may take

@@ -2,7 +2,7 @@
 use Rattle.newell.specs.declared.records.Vehicle.{Vehicle}
 use Rattle.std.proofs.Common.{◌≡◌, ℕ, zero, suc, ◌+◌, ◌-◌, ◌*◌, ◌<◌, ◌≤◌, ◌⊎◌, List, [], ◌∷◌, map, length, take, drop, sum_by, sym, refl, ap, ◌∙◌, subst, inl, inr, add-zero, add-suc, add-one, arith, length-append, length-drop, length-take}
 use mathlib.Core.Path.{fun_ext}
-use Rattle.std.specs.List.{flat_map, AllByRecursion as All}
+use Rattle.std.specs.List.{flat_map, AllByRecursion}
 use Rattle.std.proofs.lemmas.List.Sums.{sum_by-cons}
 use Rattle.std.proofs.ByRecursion.{sum_by_le, All-drop, All-weaker}
 use Rattle.std.proofs.lemmas.Bool.{cases_lt}
@@ -50,7 +50,7 @@ joined_nil : {X : Type 0} (g : ℕ → List X) (is : List ℕ) → ((i : ℕ) �
 joined_nil g [] h = refl
 joined_nil g (i ∷ is) h = rw (h i (inl refl)) (joined_nil g is (λ k q. h k (inr q)))
 
-length_le_sum : {X : Type 0} (f : X → ℕ) (xs : List X) → All (λ x. 1 ≤ f x) xs → length xs ≤ sum_by f xs
+length_le_sum : {X : Type 0} (f : X → ℕ) (xs : List X) → AllByRecursion (λ x. 1 ≤ f x) xs → length xs ≤ sum_by f xs
 length_le_sum f [] h = omega arith
 length_le_sum f (x ∷ xs) h = omega (arith, sum_by-cons f x xs, length_le_sum f xs h.1)
 
@@ -170,11 +170,11 @@ total_times (suc n) k f = omega (arith, total_times n k f)
 
 module _ (net : Net) (sound : Sound net) (c : Curves) (T : ℕ) (booked : ℕ → ℕ → List ℕ) (m : ℕ → Meaning) (lawful : Timeline net c T booked m)
     (h : ℕ) (most : (e x n : ℕ) → Served net e x n → n ≤ h) where
-  wait_weights : (j t : ℕ) → j < net.links → t ≤ T → (u : ℕ) → All (λ x. suc (togo net h j x) ≤ h + 1) (drop u (booked t (net.link j).from))
+  wait_weights : (j t : ℕ) → j < net.links → t ≤ T → (u : ℕ) → AllByRecursion (λ x. suc (togo net h j x) ≤ h + 1) (drop u (booked t (net.link j).from))
   wait_weights j t k l u = All-drop _ u _ (All-weaker (Bound net h j) _ (λ x b. omega (arith, togo_walk net x h b.1 b.2, b.2)) _
       (wait_bound net sound c T booked m lawful h most j t k l))
 
-  drive_weights : (i t : ℕ) → i < net.links → t ≤ T → All (λ (v : Vehicle). (1 ≤ togo net h i v.exit) × (togo net h i v.exit ≤ h + 1)) (on net c i t)
+  drive_weights : (i t : ℕ) → i < net.links → t ≤ T → AllByRecursion (λ (v : Vehicle). (1 ≤ togo net h i v.exit) × (togo net h i v.exit ≤ h + 1)) (on net c i t)
   drive_weights i t k l = All-drop _ (V net c i t) (c.came i t) (All-weaker (λ (v : Vehicle). Bound net h i v.exit) _
       (λ v b. (omega (arith, togo_on net h i v.exit b), omega (arith, togo_walk net v.exit h b.1 b.2, b.2))) _
       (came_bound net sound c T booked m lawful h most i t k l))
@@ -224,7 +224,7 @@ module _ (net : Net) (sound : Sound net) (c : Curves) (T : ℕ) (booked : ℕ �
             total_at net.links (λ j. sum_by (λ x. suc (togo net h j x)) (waiting net c (booked from (net.link j).from) j T)) j k,
           ))
         where
-          all_suc : (xs : List ℕ) → All (λ x. 1 ≤ suc (togo net h j x)) xs
+          all_suc : (xs : List ℕ) → AllByRecursion (λ x. 1 ≤ suc (togo net h j x)) xs
           all_suc [] = tt
           all_suc (x ∷ xs) = (omega arith, all_suc xs)
 

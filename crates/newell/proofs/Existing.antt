@@ -2,7 +2,7 @@
 use Rattle.newell.specs.declared.records.StepRow.{StepRow}
 use Rattle.merge.specs.declared.question.Question.{Question}
 use Rattle.std.proofs.Common.{◌≡◌, ℕ, zero, suc, ◌+◌, ◌-◌, ◌<◌, ◌≤◌, min, cond, eqb, ◌⊎◌, List, [], ◌∷◌, ◌++◌, map, length, get_or, take, drop, replicate, None, sym, refl, ap, ◌∙◌, subst, ap₂, inl, inr, add-one, arith, length-append, length-drop, eq-eqb, ne_eqb}
-use Rattle.std.specs.List.{range_with_len, AllByRecursion as All}
+use Rattle.std.specs.List.{range_with_len, AllByRecursion}
 use Rattle.std.proofs.lemmas.List.FromFn.{length-map-range_with_len, get_or-map-range_with_len}
 use Rattle.std.proofs.lemmas.List.{get_or_append_left, get_or-append_right, get_or-drop}
 use Rattle.std.proofs.lemmas.Bool.{cases_lt}
@@ -282,7 +282,7 @@ module _ (net : Net) (h : History) (r : RunNow) (at : Moment net h r) where
   more (to_ask_exit x) u = more_exit x
 
 -- a moment behind every list of calls
-pub moment_there : (net : Net) → Sound net → (calls : List Call) → All Lawfully calls → (h : History) × (r : RunNow) × (map call h ≡ calls) × Moment net h r
+pub moment_there : (net : Net) → Sound net → (calls : List Call) → AllByRecursion Lawfully calls → (h : History) × (r : RunNow) × (map call h ≡ calls) × Moment net h r
 unfolding More
 moment_there net sound [] a = ([], unopened, refl, opening_starts net sound unopened (is_opened net))
 moment_there net sound (q ∷ calls) a =

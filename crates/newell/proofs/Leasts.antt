@@ -2,7 +2,7 @@
 use Rattle.newell.specs.declared.records.Vehicle.{Vehicle}
 use Rattle.std.proofs.Common.{◌≡◌, ℕ, zero, suc, ◌+◌, ◌-◌, ◌<◌, ◌≤◌, min, Bool, cond, ◌⊎◌, List, [], ◌∷◌, length, Some, sym, refl, ap, ◌∙◌, subst, inl, inr, add-one, arith, length-append, length-drop, length-take, eq-eqb, ne_eqb}
 use lib.ListN.{length-map}
-use Rattle.std.specs.List.{AllByRecursion as All}
+use Rattle.std.specs.List.{AllByRecursion}
 use Rattle.network.specs.Net.{Net, Sound, Walk, there, along, Entrance, entering, leaving, next, is}
 use Rattle.network.proofs.Places.{In, pair}
 use Rattle.network.proofs.Sorts.{in₁, in₂, off₁, off₂, two_rise}
@@ -18,7 +18,7 @@ use Rattle.newell.proofs.Order.{leaver_count, from_queue, is_in_order}
 use Rattle.newell.proofs.Timeline.{Timeline, timeline}
 
 -- of vehicles that take one of two links, each takes one
-split : (net : Net) (i j j' : ℕ) → (j ≡ j' → ⊥) → (vs : List Vehicle) → All (λ (v : Vehicle). (next net i v.exit ≡ Some j) ⊎ (next net i v.exit ≡ Some j')) vs
+split : (net : Net) (i j j' : ℕ) → (j ≡ j' → ⊥) → (vs : List Vehicle) → AllByRecursion (λ (v : Vehicle). (next net i v.exit ≡ Some j) ⊎ (next net i v.exit ≡ Some j')) vs
     → length (towards net i j vs) + length (towards net i j' vs) ≡ length vs
 split net i j j' d [] a = refl
 split net i j j' d (v ∷ vs) a = go a.0 (split net i j j' d vs a.1)
@@ -41,7 +41,7 @@ module _ (net : Net) (sound : Sound net) (h : History) (c : Curves) (f : Follows
 
   -- where a link ends at a diverge, each vehicle takes one of its two branches
   branch : (n i j j' t : ℕ) → entering net n ≡ i ∷ [] → leaving net n ≡ j ∷ j' ∷ [] → t < clock h
-      → All (λ (v : Vehicle). (next net i v.exit ≡ Some j) ⊎ (next net i v.exit ≡ Some j')) (leavers net c i t)
+      → AllByRecursion (λ (v : Vehicle). (next net i v.exit ≡ Some j) ⊎ (next net i v.exit ≡ Some j')) (leavers net c i t)
   branch n i j j' t e o l = each (leavers net c i t) (all_part (λ (v : Vehicle). Bound net net.nodes i v.exit) (V net c i (t + 1) - V net c i t) (V net c i t) (c.came i t)
       (came_bound net sound c (clock h) (booked h) (handed h) lawful net.nodes (served_bound net sound) i t k (omega arith)))
     where
@@ -64,7 +64,7 @@ module _ (net : Net) (sound : Sound net) (h : History) (c : Curves) (f : Follows
           go (along {i = a} {j = b} y z) q = let u : next net i x ≡ Some b = ap (λ p. next net p x) (sym q) ∙ y in
               which b u (pair b j j' (subst (In b) (ap (leaving net) here ∙ o) (next_leaves net sound i x b u)))
 
-      each : (vs : List Vehicle) → All (λ (v : Vehicle). Bound net net.nodes i v.exit) vs → All (λ (v : Vehicle). (next net i v.exit ≡ Some j) ⊎ (next net i v.exit ≡ Some j')) vs
+      each : (vs : List Vehicle) → AllByRecursion (λ (v : Vehicle). Bound net net.nodes i v.exit) vs → AllByRecursion (λ (v : Vehicle). (next net i v.exit ≡ Some j) ⊎ (next net i v.exit ≡ Some j')) vs
       each [] a = tt
       each (v ∷ vs) a = (one v.exit a.0.0 a.0.1, each vs a.1)
 

@@ -1,7 +1,7 @@
 -- Vehicles pass the nodes in order.
 use Rattle.newell.specs.declared.records.Vehicle.{Vehicle}
 use Rattle.std.proofs.Common.{◌≡◌, ℕ, zero, suc, ◌+◌, ◌-◌, ◌<◌, ◌≤◌, true, cond, ◌⊎◌, List, [], ◌∷◌, ◌++◌, map, length, get_or, take, drop, sym, refl, ap, ◌∙◌, subst, ap₂, inl, inr, arith, length-drop, length-take, take-add, eq-eqb}
-use Rattle.std.specs.List.{flat_map, AllByRecursion as All}
+use Rattle.std.specs.List.{flat_map, AllByRecursion}
 use Rattle.std.proofs.lemmas.List.{append-nil, take_all, take-append-le, drop_at, get_or-take, get_or-drop, get_or_append_left}
 use Rattle.std.proofs.lemmas.Bool.{cases_lt}
 use Rattle.network.specs.Net.{Net, Sound, Entrance, entering, leaving, onward, next, is}
@@ -28,7 +28,7 @@ exits_stamped : (t : ℕ) (xs : List ℕ) → exits (map (λ x. record { exit = 
 exits_stamped t [] = refl
 exits_stamped t (x ∷ xs) = ap (λ ys. x ∷ ys) (exits_stamped t xs)
 
-all_stamped : (t : ℕ) (xs : List ℕ) → All (λ (v : Vehicle). v.since ≡ t) (map (λ x. record { exit = x; since = t }) xs)
+all_stamped : (t : ℕ) (xs : List ℕ) → AllByRecursion (λ (v : Vehicle). v.since ≡ t) (map (λ x. record { exit = x; since = t }) xs)
 all_stamped t [] = tt
 all_stamped t (x ∷ xs) = (refl, all_stamped t xs)
 
@@ -114,7 +114,7 @@ module _ (net : Net) (sound : Sound net) (h : History) (c : Curves) (f : Follows
   is_in_order t l = record {
     left = λ i k. left i t k l;
     came = λ j k. (lawful.law t l).arrive j k ∙ ap (λ (vs : List Vehicle). c.came j t ++ vs) (sym (fresh j t k l));
-    stamped = λ j k. subst (All (λ v. v.since ≡ t + 1)) (sym (fresh j t k l)) (all_stamped (t + 1) _);
+    stamped = λ j k. subst (AllByRecursion (λ v. v.since ≡ t + 1)) (sym (fresh j t k l)) (all_stamped (t + 1) _);
     entrance = λ e j en. admitted e j t en l;
     mainline = λ n i j e o. from_links n i j t [] e (off₁ net n j [] o) l ∙ append-nil _ ∙ one_way n i j t (in₁ net n i [] e).1 o;
     merge = λ n i i' j e o. from_links n i j t (i' ∷ []) e (off₁ net n j [] o) l

@@ -3,7 +3,7 @@ use Rattle.std.proofs.Common.{◌≡◌, ℕ, zero, suc, ◌+◌, ◌-◌, ◌*�
 use mathlib.Core.Logic.{∥∥₁_elim}
 use native.Mathlib.Bridge.{le_prop}
 use lib.ListN.{length-replicate}
-use Rattle.std.specs.List.{AllByRecursion as All}
+use Rattle.std.specs.List.{AllByRecursion}
 use Rattle.std.proofs.ByRecursion.{All-from_get_or, All-drop}
 use Rattle.std.proofs.lemmas.List.{append-nil}
 use Rattle.std.proofs.lemmas.Bool.{cases_eq}
@@ -36,7 +36,7 @@ module _ (net : Net) (sound : Sound net) (c : Curves) (T : ℕ) (booked : ℕ �
   small i (suc t) k l = let r = small i t k (omega arith) in let q = capacity_in net sound c T booked m lawful i t k l in
       rw (← add-one t) (omega (arith, (sound.link i k).capacity_most))
 
-  stamped : (i t : ℕ) → i < net.links → t ≤ T → All (λ v. v.since ≤ t) (c.came i t)
+  stamped : (i t : ℕ) → i < net.links → t ≤ T → AllByRecursion (λ v. v.since ≤ t) (c.came i t)
   stamped i t k l = All-from_get_or _ (c.came i t) (record { exit = 0; since = 0 }) (λ q b. (since net sound c T booked m lawful i t q (record { exit = 0; since = 0 }) k l b).now)
 
 queue_most : (net : Net) (sound : Sound net) (c : Curves) (h : History) → Follows net c h → (e j : ℕ) → Entrance net e j
@@ -98,7 +98,7 @@ reached_safe net r h at = record {
           holding = omega arith;
           room = omega (arith, storage net sound c (clock h) (booked h) (handed h) lawful i (clock h) k (omega arith));
           small = omega (arith, u, shows.time, small net sound c (clock h) (booked h) (handed h) lawful i (clock h) k (omega arith));
-          since = subst (λ (t : ℕ). All (λ v. v.since ≤ t) (r.link i).cars) (sym shows.time) (subst (All (λ v. v.since ≤ clock h)) (sym (shows.cars i k))
+          since = subst (λ (t : ℕ). AllByRecursion (λ v. v.since ≤ t) (r.link i).cars) (sym shows.time) (subst (AllByRecursion (λ v. v.since ≤ clock h)) (sym (shows.cars i k))
               (All-drop _ (V net c i (clock h)) (c.came i (clock h)) (stamped net sound c (clock h) (booked h) (handed h) lawful i (clock h) k (omega arith))));
         }
 

@@ -2,7 +2,7 @@
 use Rattle.std.proofs.Common.{◌≡◌, ℕ, zero, suc, ◌+◌, ◌<◌, ◌≤◌, Bool, true, false, cond, ◌&&◌, eqb, leb, ◌⊎◌, List, [], ◌∷◌, ◌++◌, replicate, sym, refl, ap, ◌∙◌, subst, inl, inr, arith, eq-eqb, ne_eqb, le-leb}
 use mathlib.Core.Path.{fun_ext}
 use borrow.Author.Tests.{lt-leb}
-use Rattle.std.specs.List.{AllByRecursion as All}
+use Rattle.std.specs.List.{AllByRecursion}
 use Rattle.std.proofs.ByRecursion.{All-append}
 use Rattle.std.proofs.lemmas.List.{append-nil, append_assoc}
 use Rattle.std.proofs.lemmas.Bool.{cases_lt, cases_eq}
@@ -18,7 +18,7 @@ pub record Timeline (net : Net) (c : Curves) (T : ℕ) (booked : ℕ → ℕ →
   pub new_left : (i : ℕ) → i < net.links → c.left i 0 ≡ 0
   pub law : (t : ℕ) → t < T → Law net c (booked t) (m t) t
   pub keeps : (t : ℕ) → t < T → Lawful (m t)
-  pub served : (t e : ℕ) → t ≤ T → All (λ x. (n : ℕ) × Served net e x n) (booked t e)
+  pub served : (t e : ℕ) → t ≤ T → AllByRecursion (λ x. (n : ℕ) × Served net e x n) (booked t e)
   pub grows : (t e : ℕ) → t < T → (more : List ℕ) × (booked (t + 1) e ≡ booked t e ++ more)
 
 -- what all bookings so far come to at a later clock does not change
@@ -67,15 +67,15 @@ pub stepped : (net : Net) (c : Curves) (h : History) (m : Meaning) (rows : List 
     → Law net c (booked h (clock h)) m (clock h) × Filled net c (clock h) rows rows' × Asked net c (clock h) m m' × Lawful m
 stepped net c h m rows u m' rows' a = (passed (passed a.0).1).1
 
-all_same : (P : ℕ → Type 0) (n x : ℕ) → P x → All P (replicate n x)
+all_same : (P : ℕ → Type 0) (n x : ℕ) → P x → AllByRecursion P (replicate n x)
 all_same P zero x p = tt
 all_same P (suc n) x p = (p, all_same P n x p)
 
-pub served : (net : Net) (c : Curves) (h : History) → Follows net c h → (t e : ℕ) → All (λ x. (n : ℕ) × Served net e x n) (booked h t e)
+pub served : (net : Net) (c : Curves) (h : History) → Follows net c h → (t e : ℕ) → AllByRecursion (λ x. (n : ℕ) × Served net e x n) (booked h t e)
 served net c [] f t e = tt
 served net c (book e' x n (told u) ∷ h) f t e = All-append _ (booked h t e) _ (served net c h f.0 t e) (go (cases_eq e' e) (leb (clock h) t))
   where
-    go : (e' ≡ e) ⊎ (e' ≡ e → ⊥) → (b : Bool) → All (λ x. (n : ℕ) × Served net e x n) (cond (b && eqb e' e) (replicate n x) [])
+    go : (e' ≡ e) ⊎ (e' ≡ e → ⊥) → (b : Bool) → AllByRecursion (λ x. (n : ℕ) × Served net e x n) (cond (b && eqb e' e) (replicate n x) [])
     go (inl q) true = rw (eq-eqb e' e q) (all_same _ n x (subst (λ k. (n : ℕ) × Served net k x n) q (met net c h e' x n u f.1)))
     go (inr q) true = rw (ne_eqb e' e q) tt
     go q false = tt

@@ -1,6 +1,6 @@
 -- Sums over the links, and over the vehicles of lists.
 use Rattle.std.proofs.Common.{◌≡◌, ℕ, zero, suc, ◌+◌, ◌<◌, ◌≤◌, Bool, true, false, cond, ◌⊎◌, List, [], ◌∷◌, map, sum_by, filter, sym, refl, ap, ◌∙◌, ap₂, inl, inr, arith}
-use Rattle.std.specs.List.{flat_map, AllByRecursion as All}
+use Rattle.std.specs.List.{flat_map, AllByRecursion}
 use Rattle.std.proofs.lemmas.List.Sums.{sum_by-cons, sum_by-append}
 use Rattle.std.proofs.lemmas.Bool.{cases_eq}
 use Rattle.network.specs.Net.{places}
@@ -77,7 +77,7 @@ module _ {X : Type 0} where
       go true rec = sum_by-cons w x (filter p xs) ∙ ap (λ n. w x + n) rec
       go false rec = omega arith
 
-  pub sum_ext : (f g : X → ℕ) (P : X → Type 0) (xs : List X) → ((x : X) → P x → f x ≡ g x) → All P xs → sum_by f xs ≡ sum_by g xs
+  pub sum_ext : (f g : X → ℕ) (P : X → Type 0) (xs : List X) → ((x : X) → P x → f x ≡ g x) → AllByRecursion P xs → sum_by f xs ≡ sum_by g xs
   sum_ext f g P [] h k = refl
   sum_ext f g P (x ∷ xs) h k = sum_by-cons f x xs ∙ ap₂ ◌+◌ (h x k.0) (sum_ext f g P xs h k.1) ∙ sym (sum_by-cons g x xs)
 
@@ -85,7 +85,7 @@ module _ {X : Type 0} where
   sum_add f g [] = refl
   sum_add f g (x ∷ xs) = omega (arith, sum_by-cons (λ x. f x + g x) x xs, sum_by-cons f x xs, sum_by-cons g x xs, sum_add f g xs)
 
-  pub sum_two : (f g k : X → ℕ) (P : X → Type 0) (xs : List X) → ((x : X) → P x → f x ≡ g x + k x) → All P xs → sum_by f xs ≡ sum_by g xs + sum_by k xs
+  pub sum_two : (f g k : X → ℕ) (P : X → Type 0) (xs : List X) → ((x : X) → P x → f x ≡ g x + k x) → AllByRecursion P xs → sum_by f xs ≡ sum_by g xs + sum_by k xs
   sum_two f g k P xs h a = sum_ext f (λ x. g x + k x) P xs h a ∙ sum_add g k xs
 
   pub sum_none : (xs : List X) → sum_by {X = X} (λ x. 0) xs ≡ 0

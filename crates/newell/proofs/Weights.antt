@@ -1,7 +1,7 @@
 -- Weights of the vehicles in a run, and how a step changes their sum.
 use Rattle.newell.specs.declared.records.Vehicle.{Vehicle}
 use Rattle.std.proofs.Common.{◌≡◌, ℕ, zero, suc, ◌+◌, ◌-◌, ◌<◌, ◌≤◌, Bool, true, false, cond, eqb, ◌⊎◌, List, [], ◌∷◌, ◌++◌, map, length, take, drop, Some, None, sum_by, filter, Option, sym, refl, ap, ◌∙◌, subst, inl, inr, add-one, arith, length-append, length-take, eq-eqb, ne_eqb, eqb-true}
-use Rattle.std.specs.List.{flat_map, AllByRecursion as All}
+use Rattle.std.specs.List.{flat_map, AllByRecursion}
 use Rattle.std.proofs.lemmas.List.Sums.{sum_by-append, sum_by-take-drop}
 use Rattle.std.proofs.ByRecursion.{All-map, All-append, All-take, All-drop, All-weaker}
 use Rattle.std.proofs.lemmas.List.{drop-drop, drop-append-le, drop_all}
@@ -41,7 +41,7 @@ cond_sum : {X : Type 0} (b : Bool) (f : X → ℕ) (xs : List X) → cond b (sum
 cond_sum true f xs = refl
 cond_sum false f xs = sym (sum_none xs)
 
-all_unit : {X : Type 0} (xs : List X) → All (λ x. Unit {0}) xs
+all_unit : {X : Type 0} (xs : List X) → AllByRecursion (λ x. Unit {0}) xs
 all_unit [] = tt
 all_unit (x ∷ xs) = (tt, all_unit xs)
 
@@ -119,7 +119,7 @@ module _ (net : Net) (sound : Sound net) (c : Curves) (T : ℕ) (booked : ℕ �
       nil : B ≡ [] → waiting net c B j (t + 1) ≡ drop (R net c j t) (waiting net c B j t)
       nil e = rw (e, drop_nil (U net c j t), drop_nil (U net c j (t + 1)), drop_nil (R net c j t))
 
-      served : All (λ x. (n : ℕ) × Served net (net.link j).from x n) B
+      served : AllByRecursion (λ x. (n : ℕ) × Served net (net.link j).from x n) B
       served = lawful.served t (net.link j).from (omega arith)
 
       go : Start net j → waiting net c B j (t + 1) ≡ drop (R net c j t) (waiting net c B j t)
@@ -175,25 +175,25 @@ walks_on net h x j (there {i = i} e l) b q = let z : false ≡ true = subst (λ 
 walks_on net h x j (along {i = i} {j = k} {n = n} e r) b q =
     let z : eqb k j ≡ true = subst (λ o. is o j ≡ true) e q in (n, subst (λ y. Walk net x y n) (eqb-true k j z) r, omega arith)
 
-pub all_part : {X : Type 0} (P : X → Type 0) (n k : ℕ) (xs : List X) → All P xs → All P (take n (drop k xs))
+pub all_part : {X : Type 0} (P : X → Type 0) (n k : ℕ) (xs : List X) → AllByRecursion P xs → AllByRecursion P (take n (drop k xs))
 all_part P n k xs h = All-take P n (drop k xs) (All-drop P k xs h)
 
-all_joined : {X : Type 0} (P : X → Type 0) (g : ℕ → List X) (is : List ℕ) → ((i : ℕ) → In i is → All P (g i)) → All P (flat_map g is)
+all_joined : {X : Type 0} (P : X → Type 0) (g : ℕ → List X) (is : List ℕ) → ((i : ℕ) → In i is → AllByRecursion P (g i)) → AllByRecursion P (flat_map g is)
 all_joined P g [] h = tt
 all_joined P g (i ∷ is) h = All-append P (g i) (flat_map g is) (h i (inl refl)) (all_joined P g is (λ k q. h k (inr q)))
 
-all_kept : {X : Type 0} (P Q : X → Type 0) (p : X → Bool) → ((x : X) → P x → p x ≡ true → Q x) → (xs : List X) → All P xs → All Q (filter p xs)
+all_kept : {X : Type 0} (P Q : X → Type 0) (p : X → Bool) → ((x : X) → P x → p x ≡ true → Q x) → (xs : List X) → AllByRecursion P xs → AllByRecursion Q (filter p xs)
 all_kept P Q p f [] h = tt
 all_kept P Q p f (x ∷ xs) h = go (p x) (f x h.0) (all_kept P Q p f xs h.1)
   where
-    go : (b : Bool) → (b ≡ true → Q x) → All Q (filter p xs) → All Q (cond b (x ∷ filter p xs) (filter p xs))
+    go : (b : Bool) → (b ≡ true → Q x) → AllByRecursion Q (filter p xs) → AllByRecursion Q (cond b (x ∷ filter p xs) (filter p xs))
     go true k r = (k refl, r)
     go false k r = r
 
 module _ (net : Net) (sound : Sound net) (c : Curves) (T : ℕ) (booked : ℕ → ℕ → List ℕ) (m : ℕ → Meaning) (lawful : Timeline net c T booked m)
     (h : ℕ) (most : (e x n : ℕ) → Served net e x n → n ≤ h) where
   -- those that wait for a link
-  pub wait_bound : (j t : ℕ) → j < net.links → t ≤ T → All (λ x. Bound net h j x) (booked t (net.link j).from)
+  pub wait_bound : (j t : ℕ) → j < net.links → t ≤ T → AllByRecursion (λ x. Bound net h j x) (booked t (net.link j).from)
   wait_bound j t l k = All-weaker _ _ one _ (lawful.served t (net.link j).from k)
     where
       one : (x : ℕ) → ((n : ℕ) × Served net (net.link j).from x n) → Bound net h j x
@@ -201,7 +201,7 @@ module _ (net : Net) (sound : Sound net) (c : Curves) (T : ℕ) (booked : ℕ �
           (n, subst (λ y. Walk net x y n) (sym e) s.2, most _ x n s)
 
   -- those that come on
-  pub came_bound : (j t : ℕ) → j < net.links → t ≤ T → All (λ v. Bound net h j v.exit) (c.came j t)
+  pub came_bound : (j t : ℕ) → j < net.links → t ≤ T → AllByRecursion (λ v. Bound net h j v.exit) (c.came j t)
   came_bound j zero l k = rw (lawful.new_came j l) tt
   came_bound j (suc t) l k = rw (← add-one, (lawful.law t k).arrive j l)
       (All-append _ (c.came j t) _ (came_bound j t l (omega arith)) (All-map _ _ _ (All-append _ _ _

@@ -5,7 +5,7 @@ use Rattle.newell.specs.declared.records.Vehicle.{Vehicle}
 use Rattle.merge.specs.declared.question.Question.{Question}
 use Rattle.newell.specs.declared.records.StepRow.{StepRow}
 use Rattle.std.specs.Prelude.{◌≡◌, ℕ, ◌+◌, ◌-◌, ◌*◌, ◌<◌, ◌≤◌, min, List, [], ◌∷◌, ◌++◌, map, length, take, drop, replicate, Some, None, Option, ◌≢◌, slice_index_or}
-use Rattle.std.specs.List.{flat_map, AllByRecursion as All}
+use Rattle.std.specs.List.{flat_map, AllByRecursion}
 use Rattle.network.specs.Net.{Net, Sound, Entrance, Exit, Served, entering, leaving}
 use Rattle.merge.specs.Rules.{Meaning, Lawful}
 use Rattle.newell.specs.Plain.{Curves, U, V, on, waiting, towards, Greatest}
@@ -202,7 +202,7 @@ pub record SafeLink (net : Net) (r : RunNow) (i : ℕ) : Type 0 where
   pub holding : (r.link i).offs 0 + length (r.link i).cars ≡ (r.link i).ons 0
   pub room : length (r.link i).cars ≤ (net.link i).storage
   pub small : (r.link i).ons 0 ≤ 200 * r.clock
-  pub since : All (λ v. v.since ≤ r.clock) (r.link i).cars
+  pub since : AllByRecursion (λ v. v.since ≤ r.clock) (r.link i).cars
 
 pub record Safe (net : Net) (r : RunNow) : Type 0 where
   pub early : r.clock ≤ 1000000

@@ -1,7 +1,7 @@
 -- What is promised of every run at each moment: vehicles are conserved, links keep their bounds, vehicles keep their order, travel times are
 -- those of the curves, and a run clears.
 use Rattle.std.specs.Prelude.{◌≡◌, ℕ, zero, suc, ◌+◌, ◌-◌, ◌*◌, ◌<◌, ◌≤◌, cond, List, [], ◌∷◌, ◌++◌, map, length, take, Some, None, sum_by, ◌==◌}
-use Rattle.std.specs.List.{AllByRecursion as All}
+use Rattle.std.specs.List.{AllByRecursion}
 use Rattle.network.specs.Net.{Net, Sound, Entrance, Exit, MostLinks, LongestSteps, entering, leaving}
 use Rattle.merge.specs.Rules.{Meaning, Lawful}
 use Rattle.newell.specs.Plain.{Curves, U, V, on, waiting, leavers, newcomers, exits, towards}
@@ -63,14 +63,14 @@ module _ (net : Net) (c : Curves) (h : History) where
     pub storage : (t : ℕ) → t ≤ clock h → U net c i t ≤ V net c i t + (net.link i).storage
     pub capacity_on : (t : ℕ) → t < clock h → U net c i (t + 1) ≤ U net c i t + (net.link i).capacity
     pub capacity_off : (t : ℕ) → t < clock h → V net c i (t + 1) ≤ V net c i t + (net.link i).capacity
-    pub free_over : (t : ℕ) → t < clock h → All (λ v. v.since + (net.link i).free ≤ t + 1) (leavers net c i t)
+    pub free_over : (t : ℕ) → t < clock h → AllByRecursion (λ v. v.since + (net.link i).free ≤ t + 1) (leavers net c i t)
 
   -- In the step from t, vehicles left each link in the order they came on, and came on behind all others, with that step's clock. Those that came on a
   -- link are, in order, the first that waited for it, or those that left for it: at a merge the first leg's ahead of the second's.
   pub record InOrder (t : ℕ) : Type 0 where
     pub left : (i : ℕ) → i < net.links → take (V net c i (t + 1)) (c.came i (t + 1)) ≡ take (V net c i t) (c.came i t) ++ leavers net c i t
     pub came : (j : ℕ) → j < net.links → c.came j (t + 1) ≡ c.came j t ++ newcomers net c j t
-    pub stamped : (j : ℕ) → j < net.links → All (λ v. v.since ≡ t + 1) (newcomers net c j t)
+    pub stamped : (j : ℕ) → j < net.links → AllByRecursion (λ v. v.since ≡ t + 1) (newcomers net c j t)
     pub entrance : (e j : ℕ) → Entrance net e j
         → exits (newcomers net c j t) ≡ take (U net c j (t + 1) - U net c j t) (waiting net c (booked h t e) j t)
     pub mainline : (n i j : ℕ) → entering net n ≡ i ∷ [] → leaving net n ≡ j ∷ [] → exits (newcomers net c j t) ≡ exits (leavers net c i t)
@@ -131,7 +131,7 @@ Lawfully (to_ask_entrance e) = Unit {0}
 Lawfully (to_ask_exit x) = Unit {0}
 
 abbrev pub PlainRunThere : Type 0
-PlainRunThere = (net : Net) → Sound net → (calls : List Call) → All Lawfully calls → (h : History) × (c : Curves) × (map call h ≡ calls) × Follows net c h
+PlainRunThere = (net : Net) → Sound net → (calls : List Call) → AllByRecursion Lawfully calls → (h : History) × (c : Curves) × (map call h ≡ calls) × Follows net c h
 
 -- and it is one: two plain runs for the same calls agree.
 abbrev pub Agree : Net → Curves → Curves → ℕ → Type 0

@@ -1,6 +1,6 @@
 -- A line that reads as a row passes every check, and reads as no other row. Assumes nothing.
 use Rattle.std.proofs.Common.{◌≡◌, ℕ, ◌+◌, ◌*◌, ◌≤◌, cond, eqb, List, [], ◌∷◌, map, length, get_or, sym, refl, ap, ◌∙◌, subst, ⊎_elim, arith}
-use Rattle.std.specs.List.{AllByRecursion as All}
+use Rattle.std.specs.List.{AllByRecursion}
 use Rattle.std.proofs.lemmas.Fmt.{decimal_injective, length-decimal-le}
 use Rattle.std.proofs.lemmas.List.{length-append}
 use Rattle.std.proofs.lemmas.Bool.{both_ways}
@@ -26,7 +26,7 @@ abbrev SmallWant : Want → Type 0
 SmallWant (between lo hi) = hi ≤ 65535
 SmallWant rule_name = Unit {0}
 
-small_wants : (nodes links : ℕ) → nodes ≤ 65535 → links ≤ 65535 → (k : Kind) → All SmallWant (wants nodes links k)
+small_wants : (nodes links : ℕ) → nodes ≤ 65535 → links ≤ 65535 → (k : Kind) → AllByRecursion SmallWant (wants nodes links k)
 small_wants n l hn hl Net = (omega arith, (omega arith, tt))
 small_wants n l hn hl Link = (hn, (hn, (omega arith, (omega arith, (omega arith, (omega arith, tt))))))
 small_wants n l hn hl Route = (hn, (hn, (hl, tt)))
@@ -59,13 +59,13 @@ clean_field (between lo hi) (rule r) s a = absurd a
 clean_field rule_name (number n) s a = absurd a
 clean_field rule_name (rule r) s a = clean_rule r
 
-clean_fields : (ws : List Want) (fs : List Field) → All SmallWant ws → Allowed ws fs → All Clean (map written fs)
+clean_fields : (ws : List Want) (fs : List Field) → AllByRecursion SmallWant ws → Allowed ws fs → AllByRecursion Clean (map written fs)
 clean_fields [] [] s a = tt
 clean_fields [] (f ∷ fs) s a = absurd a
 clean_fields (w ∷ ws) [] s a = absurd a
 clean_fields (w ∷ ws) (f ∷ fs) s a = (clean_field w f s.0 a.0, clean_fields ws fs s.1 a.1)
 
-clean_spelled : (nodes links : ℕ) → nodes ≤ 65535 → links ≤ 65535 → (r : Row) → Ranged nodes links r → All Clean (spelled r)
+clean_spelled : (nodes links : ℕ) → nodes ≤ 65535 → links ≤ 65535 → (r : Row) → Ranged nodes links r → AllByRecursion Clean (spelled r)
 clean_spelled n l hn hl r a = (clean_name (kind_of r), clean_fields (wants n l (kind_of r)) (fields_of r) (small_wants n l hn hl (kind_of r)) a)
 
 -- a name and its fields
@@ -106,7 +106,7 @@ all_fit (w ∷ ws) (f ∷ fs) (x ∷ xs) e a q u =
     ⊎_elim (λ h. h.1 (f, here, a.0)) (λ h. all_fit ws fs xs rest a.1 q h) u
 
 module _ (file : List ℕ) (p : ℕ) (stage : Stage) (nodes links : ℕ) (few : nodes ≤ 65535) (small : links ≤ 65535) (r : Row) (reads : Reads file p stage nodes links r) where
-  clean : All Clean (spelled r)
+  clean : AllByRecursion Clean (spelled r)
   clean = clean_spelled nodes links few small r reads.ranged
 
   pub reads_words : texts (words_at file p) ≡ spelled r
@@ -165,7 +165,7 @@ same_field rule_name (number m) g s a b e = absurd a
 same_field rule_name (rule r) (number m) s a b e = absurd b
 same_field rule_name (rule q) (rule r) s a b e = ap rule (sym (rule_again q) ∙ ap rule_at e ∙ rule_again r)
 
-same_fields : (ws : List Want) (fs gs : List Field) → All SmallWant ws → Allowed ws fs → Allowed ws gs → map written fs ≡ map written gs → fs ≡ gs
+same_fields : (ws : List Want) (fs gs : List Field) → AllByRecursion SmallWant ws → Allowed ws fs → Allowed ws gs → map written fs ≡ map written gs → fs ≡ gs
 same_fields [] [] [] s a b e = refl
 same_fields [] [] (g ∷ gs) s a b e = absurd b
 same_fields [] (f ∷ fs) gs s a b e = absurd a
@@ -258,13 +258,13 @@ short_field (between lo hi) (rule r) s a = absurd a
 short_field rule_name (number n) s a = absurd a
 short_field rule_name (rule r) s a = short_rule r
 
-short_fields : (ws : List Want) (fs : List Field) → All SmallWant ws → Allowed ws fs → All Short (map written fs)
+short_fields : (ws : List Want) (fs : List Field) → AllByRecursion SmallWant ws → Allowed ws fs → AllByRecursion Short (map written fs)
 short_fields [] [] s a = tt
 short_fields [] (f ∷ fs) s a = absurd a
 short_fields (w ∷ ws) [] s a = absurd a
 short_fields (w ∷ ws) (f ∷ fs) s a = (short_field w f s.0 a.0, short_fields ws fs s.1 a.1)
 
-short_spaced : (t : List ℕ) (ts : List (List ℕ)) → All Short (t ∷ ts) → length (spaced (t ∷ ts)) + 1 ≤ 6 * length (t ∷ ts)
+short_spaced : (t : List ℕ) (ts : List (List ℕ)) → AllByRecursion Short (t ∷ ts) → length (spaced (t ∷ ts)) + 1 ≤ 6 * length (t ∷ ts)
 short_spaced t [] a = let h = a.0 in omega arith
 short_spaced t (u ∷ us) a = let h = a.0 in omega (arith, short_spaced u us a.1, length-append t (32 ∷ spaced (u ∷ us)))
 

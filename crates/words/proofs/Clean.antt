@@ -1,7 +1,7 @@
 -- A line written of clean words is cut into them again, and passes the checks of words. Assumes nothing.
 use Rattle.std.proofs.Common.{◌≡◌, ℕ, ◌+◌, ◌-◌, ◌^◌, ◌<◌, ◌≤◌, Bool, true, ◌&&◌, ◌||◌, leb, ◌⊎◌, List, [], ◌∷◌, ◌++◌, length, get_or, drop, decimal, sym, refl, ap, ◌∙◌, subst, inl, inr, ⊎_elim, arith}
 use Rattle.std.specs.Int.{IsInRange}
-use Rattle.std.specs.List.{AllByRecursion as All}
+use Rattle.std.specs.List.{AllByRecursion}
 use Rattle.std.proofs.lemmas.Fmt.{decimal_nonempty, decimal_is_IsNumeral}
 use Rattle.std.proofs.ByRecursion.{All-from_get_or, All-get_or}
 use Rattle.std.proofs.lemmas.List.Prefix.{at_reads}
@@ -20,7 +20,7 @@ Letter c = IsInRange 97 122 c ⊎ IsInRange 48 57 c
 -- some letters and digits, and no other byte
 pub record Clean (t : List ℕ) : Type 0 where
   pub some : 0 < length t
-  pub each : All Letter t
+  pub each : AllByRecursion Letter t
 
 not_space : (c : ℕ) → Letter c → c ≡ 32 → ⊥
 not_space c (inl a) e = omega (arith, a.0)
@@ -30,30 +30,30 @@ texts_grow : (p c : ℕ) (ws : List Spot) (t : List ℕ) (ts : List (List ℕ)) 
 texts_grow p c [] t ts e = absurd (omega (arith, ap length e))
 texts_grow p c (w ∷ ws) t ts e = let a : w.text ≡ t = cc in let b : texts ws ≡ ts = cc in λ i. (c ∷ a i) ∷ b i
 
-word_alone : (p : ℕ) (t : List ℕ) → All Letter t → texts (words p t) ≡ t ∷ []
+word_alone : (p : ℕ) (t : List ℕ) → AllByRecursion Letter t → texts (words p t) ≡ t ∷ []
 word_alone p [] a = refl
 word_alone p (c ∷ cs) a = ap texts (words_other p c cs (not_space c a.0)) ∙ texts_grow p c (words (p + 1) cs) cs [] (word_alone (p + 1) cs a.1)
 
-word_then : (p : ℕ) (t rest : List ℕ) (ts : List (List ℕ)) → All Letter t → ((q : ℕ) → texts (words q rest) ≡ ts) → texts (words p (t ++ (32 ∷ rest))) ≡ t ∷ ts
+word_then : (p : ℕ) (t rest : List ℕ) (ts : List (List ℕ)) → AllByRecursion Letter t → ((q : ℕ) → texts (words q rest) ≡ ts) → texts (words p (t ++ (32 ∷ rest))) ≡ t ∷ ts
 word_then p [] rest ts a more = ap texts (words_space p 32 rest refl) ∙ ap (λ (x : List (List ℕ)). [] ∷ x) (more (p + 1))
 word_then p (c ∷ cs) rest ts a more =
     ap texts (words_other p c (cs ++ (32 ∷ rest)) (not_space c a.0)) ∙ texts_grow p c (words (p + 1) (cs ++ (32 ∷ rest))) cs ts (word_then (p + 1) cs rest ts a.1 more)
 
 -- words written out are cut again
-pub cut_again : (ts : List (List ℕ)) (p : ℕ) → 0 < length ts → All Clean ts → texts (words p (spaced ts)) ≡ ts
+pub cut_again : (ts : List (List ℕ)) (p : ℕ) → 0 < length ts → AllByRecursion Clean ts → texts (words p (spaced ts)) ≡ ts
 cut_again [] p h a = absurd (omega arith)
 cut_again (t ∷ []) p h a = word_alone p t a.0.each
 cut_again (t ∷ u ∷ us) p h a = word_then p t (spaced (u ∷ us)) (u ∷ us) a.0.each (λ q. cut_again (u ∷ us) q (omega arith) a.1)
 
-plain_letters : (t : List ℕ) → All Letter t → All Plain t
+plain_letters : (t : List ℕ) → AllByRecursion Letter t → AllByRecursion Plain t
 plain_letters [] a = tt
 plain_letters (c ∷ cs) a = (⊎_elim (λ x. inl x) (λ x. inr (inl x)) a.0, plain_letters cs a.1)
 
-plain_join : (s t : List ℕ) → All Plain s → All Plain t → All Plain (s ++ t)
+plain_join : (s t : List ℕ) → AllByRecursion Plain s → AllByRecursion Plain t → AllByRecursion Plain (s ++ t)
 plain_join [] t a b = b
 plain_join (c ∷ cs) t a b = (a.0, plain_join cs t a.1 b)
 
-plain_spaced : (ts : List (List ℕ)) → All Clean ts → All Plain (spaced ts)
+plain_spaced : (ts : List (List ℕ)) → AllByRecursion Clean ts → AllByRecursion Plain (spaced ts)
 plain_spaced [] a = tt
 plain_spaced (t ∷ []) a = plain_letters t a.0.each
 plain_spaced (t ∷ u ∷ us) a = plain_join t (32 ∷ spaced (u ∷ us)) (plain_letters t a.0.each) (inr (inr refl), plain_spaced (u ∷ us) a.1)
@@ -63,11 +63,11 @@ plain_no_feed c (inl a) e = omega (arith, a.0)
 plain_no_feed c (inr (inl a)) e = omega (arith, a.0)
 plain_no_feed c (inr (inr a)) e = omega arith
 
-line_until : (bs rest : List ℕ) → All Plain bs → line (bs ++ (10 ∷ rest)) ≡ bs
+line_until : (bs rest : List ℕ) → AllByRecursion Plain bs → line (bs ++ (10 ∷ rest)) ≡ bs
 line_until [] rest a = line_stop 10 rest refl
 line_until (c ∷ cs) rest a = line_on c (cs ++ (10 ∷ rest)) (plain_no_feed c a.0) ∙ ap (λ (x : List ℕ). c ∷ x) (line_until cs rest a.1)
 
-no_empty : (ws : List Spot) (q : ℕ) → All Clean (texts ws) → Empty ws q → ⊥
+no_empty : (ws : List Spot) (q : ℕ) → AllByRecursion Clean (texts ws) → Empty ws q → ⊥
 no_empty [] q a h = h
 no_empty (w ∷ ws) q a h = ⊎_elim (λ e. omega (arith, a.0.some, ap length e.1)) (λ e. no_empty ws q a.1 e) h
 
@@ -77,7 +77,7 @@ stands_inside file p t s some = omega (arith, ap length s, length-take (length t
 pub stands_whole : (file : List ℕ) (p : ℕ) (t : List ℕ) → Stands file p t → drop p file ≡ t ++ drop (length t) (drop p file)
 stands_whole file p t s = sym (take-append-drop (length t) (drop p file)) ∙ ap (λ (x : List ℕ). x ++ drop (length t) (drop p file)) s
 
-module _ (file : List ℕ) (p : ℕ) (ts : List (List ℕ)) (some : 0 < length ts) (clean : All Clean ts) (s : Stands file p (line_of ts)) where
+module _ (file : List ℕ) (p : ℕ) (ts : List (List ℕ)) (some : 0 < length ts) (clean : AllByRecursion Clean ts) (s : Stands file p (line_of ts)) where
   whole : drop p file ≡ spaced ts ++ (10 ∷ drop (length (line_of ts)) (drop p file))
   whole = stands_whole file p (line_of ts) s ∙ append_assoc (spaced ts) (10 ∷ []) (drop (length (line_of ts)) (drop p file))
 
@@ -103,7 +103,7 @@ module _ (file : List ℕ) (p : ℕ) (ts : List (List ℕ)) (some : 0 < length t
         let is = at_reads 0 file (spaced ts) p (10 ∷ drop (length (line_of ts)) (drop p file)) whole (q - p) in' in
         h.2 (subst Plain (sym (sym (ap (λ k. get_or file k 0) at) ∙ is)) (All-get_or Plain (spaced ts) (q - p) 0 in' (plain_spaced ts clean)))),
     (
-      (λ q h. no_empty (words_at file p) q (subst (All Clean) (sym line_words) clean) h),
+      (λ q h. no_empty (words_at file p) q (subst (AllByRecursion Clean) (sym line_words) clean) h),
       ((λ q h. let e = h.1 in omega (arith, fed)), tt),
     ),
   )
@@ -123,7 +123,7 @@ letter_from c e =
     (λ a. let h = and_parts (leb 48 c) (leb c 57) a in inr (leb-true 48 c h.0, leb-true c 57 h.1))
     (or_cases (leb 97 c && leb c 122) (leb 48 c && leb c 57) e)
 
-letters_from : (t : List ℕ) → lettersb t ≡ true → All Letter t
+letters_from : (t : List ℕ) → lettersb t ≡ true → AllByRecursion Letter t
 letters_from [] e = tt
 letters_from (c ∷ cs) e = let h = and_parts (letterb c) (lettersb cs) e in (letter_from c h.0, letters_from cs h.1)
 
