@@ -8,15 +8,13 @@ ghost use Rattle.step.specs.Steps.{Advanced};
 ghost use Rattle.run.specs.Stores.{view_in, BuiltIn, Judged, StepJudged, EntranceTold, ExitTold, AreaBooked, answer_of};
 
 use crate::open::WAITING;
+use crate::run::stepping::LAST;
 use crate::store::{Refusal, Store};
 use flow::queue::queue_up;
 use links::Side;
 use merge::MergeRule;
 use newell::{LinkState, StepRow};
 use step::advance::advance;
-
-// The clock at which no step runs.
-pub const LAST: u32 = 1_000_000;
 
 // The most that are booked at once.
 pub const BOOKED: u16 = 200;

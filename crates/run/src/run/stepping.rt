@@ -10,6 +10,9 @@ use crate::store::Refusal;
 use merge::MergeRule;
 use newell::StepRow;
 
+// The clock at which no step runs.
+pub const LAST: u32 = 1_000_000;
+
 impl<'a> Run<'a> {
     // One step under a rule; a row is filled for each link.
     pub fn step<R: MergeRule>(&mut self, rule: &mut R, rows: &mut [StepRow]) -> Result<(), Refusal>
