@@ -126,7 +126,7 @@ fn link_of(n: [u16; 6]) -> Link
 
 // The row that the numbers make.
 fn row_of(kind: Kind, n: [u16; 6]) -> Row
-    requires kind { ((kind ≢ Merge)) × (length n ≡ 6) }
+    requires kind { (kind ≢ Merge) × (length n ≡ 6) }
     requires narrow { kind ≡ LinkKind → Narrow n }
     ensures kind { kind_of result ≡ kind }
     ensures says { fields_of result ≡ numbered (take (count_of kind - 1) n) }
