@@ -1,8 +1,8 @@
 #!/usr/bin/env python3
 """Times two corridor programs on large corridors, one after the other on the same files, and prints their ratio.
 
-    benches/bench.py target/bin/corridor corridor-reference --repeats 5
-    benches/bench.py target/bin/corridor corridor-reference --count
+    benches/bench.py crates/corridor/out/corridor corridor-reference --repeats 5
+    benches/bench.py crates/corridor/out/corridor corridor-reference --count
 
 Times are the process's own processor time (user and system), best and median of the repeats; the ratio is the first program's best
 over the second's. `--count` counts instructions in place of seconds, with perf where it may count, else with valgrind, on shorter

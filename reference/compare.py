@@ -1,7 +1,7 @@
 #!/usr/bin/env python3
 """Runs two corridor programs on random files, sound and damaged, and compares what they print byte by byte.
 
-    reference/compare.py target/bin/corridor corridor-reference --cases 5000 --seed 7
+    reference/compare.py crates/corridor/out/corridor corridor-reference --cases 5000 --seed 7
 
 Prints the cases run, how often each refusal was seen, and every difference with the file saved. Exit 1 on a difference.
 A case depends on `--seed` and its own number alone: `--first 1234 --cases 1` runs one again.
