@@ -69,7 +69,7 @@ def declared():
 
 def turn(text, names, ghost_only):
     out, i = [], 0
-    # strings, characters and comments of the code stay; the rest of a .rt file is turned name by name
+    # strings of the code stay; the rest of a .rt file is turned name by name
     skip = re.compile(r'"(?:[^"\\]|\\.)*"') if ghost_only else None
     while i < len(text):
         if skip:

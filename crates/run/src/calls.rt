@@ -7,7 +7,6 @@ ghost use Rattle.newell.specs.Now.{Reached, Queued, state_now, Carries};
 ghost use Rattle.step.specs.Steps.{Advanced};
 ghost use Rattle.run.specs.Stores.{view_in, BuiltIn, Judged, StepJudged, EntranceTold, ExitTold, AreaBooked, answer_of};
 
-use crate::open::WAITING;
 use crate::run::stepping::LAST;
 use crate::store::{Refusal, Store};
 use flow::queue::queue_up;
@@ -33,7 +32,7 @@ fn place_for(waiting: usize, n: u16) -> bool
     ensures yes { result ≡ true → waiting + n ≤ 500 }
     ensures no { result ≡ false → 500 < waiting + n }
 {
-    waiting + n as usize <= WAITING
+    waiting + n as usize <= 500
 }
 
 impl<'a> Store<'a> {
