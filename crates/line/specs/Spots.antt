@@ -2,7 +2,7 @@
 use Rattle.std.specs.Prelude.{ℕ, ◌+◌, cond, List, [], ◌∷◌, length, nat_lt, slice_set}
 use Rattle.line.specs.Ring.{slot_of}
 use Rattle.line.specs.Parts.{part_of}
-use Rattle.line.specs.declared.shape.Mark.{Mark}
+use Rattle.line.specs.declared.shape.Part.{Part}
 
 -- what the slots hold, and where the next entry will lie
 pub record Spots (X : Type 0) : Type 0 where
@@ -24,5 +24,5 @@ module _ {X : Type 0} where
   written s (x ∷ xs) = written (wrote s x) xs
 
   -- the spots of the queue in a part of an area
-  abbrev pub spots_in : List X → ℕ → ℕ → Mark → Spots X
-  spots_in area start size m = record { slots = part_of start size area; tail = round size (slot_of size m.head m.len) }
+  abbrev pub spots_in : List X → Part → Spots X
+  spots_in area p = record { slots = part_of p.start p.size area; tail = round p.size (slot_of p.size p.head p.len) }
