@@ -1,44 +1,40 @@
 -- Links counted one by one.
-use Rattle.std.proofs.Common.{◌≡◌, ℕ, ◌+◌, ◌≤◌, Bool, true, false, cond, List, [], ◌∷◌, ◌++◌, sym, refl, ap, ◌∙◌, subst, append-nil, add-one, arith, length-append, eq-eqb, ne_eqb}
+use Rattle.std.proofs.Common.{◌≡◌, ℕ, zero, suc, ◌+◌, ◌≤◌, Bool, true, false, cond, List, [], ◌∷◌, ◌++◌, sym, refl, ap, subst, append-nil, add-one, arith, length, length-append}
 use Rattle.network.specs.Net.{places}
 use Rattle.network.specs.declared.scan.Few.{Few}
-use Rattle.network.specs.Scans.{IsFew, more_of}
+use Rattle.network.specs.declared.scan.Few.TheVariants.{Zero, One, Two, More}
+use Rattle.network.specs.Scans.{IsFew, few_count, more_of}
 
-grown : (xs : List ℕ) (f : Few) (i : ℕ) → IsFew f xs → IsFew (more_of f i) (xs ++ i ∷ [])
-grown [] f i h = let e = h.count in record { count = omega arith; first = λ l. ap (λ b. cond b i f.first) (eq-eqb f.count 0 e); second = λ l. absurd (omega arith) }
-grown (x ∷ []) f i h = let e = h.count in record {
-  count = omega arith;
-  first = λ l. ap (λ b. cond b i f.first) (ne_eqb f.count 0 (omega arith)) ∙ h.first (omega arith);
-  second = λ l. ap (λ b. cond b i f.second) (eq-eqb f.count 1 (omega arith));
-}
-grown (x ∷ y ∷ xs) f i h = let e = h.count in let w = length-append xs (i ∷ []) in record {
-  count = omega arith;
-  first = λ l. ap (λ b. cond b i f.first) (ne_eqb f.count 0 (omega arith)) ∙ h.first (omega arith);
-  second = λ l. ap (λ b. cond b i f.second) (ne_eqb f.count 1 (omega arith)) ∙ h.second (omega arith);
-}
+few_length : (f : Few) (xs : List ℕ) → IsFew f xs → few_count f ≡ length xs
+few_length Zero xs h = sym (ap length h)
+few_length (One i) xs h = sym (ap length h)
+few_length (Two i j) xs h = sym (ap length h)
+few_length (More i j n) xs h = sym h.1
 
-pub few_more : (p : ℕ → Bool) (i : ℕ) (f f' : Few) (b : Bool) → b ≡ p i → f' ≡ cond b (more_of f i) f → IsFew f (places p i) → IsFew f' (places p (i + 1))
-few_more p i f f' b q e h = rw add-one (subst (λ (g : Few). IsFew g (places p i ++ cond (p i) (i ∷ []) [])) (sym e) (subst (λ c. IsFew (cond b (more_of f i) f) (places p i ++ cond c (i ∷ []) [])) q (go b)))
+places_most : (p : ℕ → Bool) (n : ℕ) → length (places p n) ≤ n
+places_most p zero = omega arith
+places_most p (suc n) = go (p n) (places_most p n)
   where
-    go : (b : Bool) → IsFew (cond b (more_of f i) f) (places p i ++ cond b (i ∷ []) [])
-    go true = grown (places p i) f i h
-    go false = subst (IsFew f) (sym (append-nil (places p i))) h
+    go : (b : Bool) → length (places p n) ≤ n → length (places p n ++ cond b (n ∷ []) []) ≤ suc n
+    go true h = let e = length-append (places p n) (n ∷ []) in omega arith
+    go false h = let e = length-append (places p n) [] in omega arith
 
-pub few_count : (i : ℕ) (f f' : Few) (b : Bool) → f' ≡ cond b (more_of f i) f → f.count ≤ i → f'.count ≤ i + 1
-few_count i f f' true e l = let z = ap (λ (g : Few). g.count) e in omega arith
-few_count i f f' false e l = let z = ap (λ (g : Few). g.count) e in omega arith
+pub few_most : (p : ℕ → Bool) (n : ℕ) (f : Few) → IsFew f (places p n) → few_count f ≤ n
+few_most p n f h = let e = few_length f (places p n) h in let m = places_most p n in omega arith
 
-pub zero_few : (xs : List ℕ) (f : Few) → IsFew f xs → f.count ≡ 0 → xs ≡ []
-zero_few [] f h e = refl
-zero_few (x ∷ xs) f h e = let w = h.count in absurd (omega arith)
+longer : (xs : List ℕ) (i j n k : ℕ) → IsFew (More i j n) xs → IsFew (More i j (n + 1)) (xs ++ k ∷ [])
+longer [] i j n k h = absurd (let a = h.0 in let b = h.1 in omega arith)
+longer (x ∷ []) i j n k h = absurd (let a = h.0 in let b = h.1 in omega arith)
+longer (x ∷ y ∷ xs) i j n k h = (let a = h.0 in omega arith, (let b = h.1 in let e = length-append xs (k ∷ []) in omega arith), h.2, h.3)
 
-pub one_few : (xs : List ℕ) (f : Few) → IsFew f xs → f.count ≡ 1 → xs ≡ f.first ∷ []
-one_few [] f h e = let w = h.count in absurd (omega arith)
-one_few (x ∷ []) f h e = ap (λ y. y ∷ []) (sym (h.first (omega arith)))
-one_few (x ∷ y ∷ xs) f h e = let w = h.count in absurd (omega arith)
+grown : (xs : List ℕ) (f : Few) (k : ℕ) → IsFew f xs → IsFew (more_of f k) (xs ++ k ∷ [])
+grown xs Zero k h = ap (λ (ys : List ℕ). ys ++ k ∷ []) h
+grown xs (One i) k h = ap (λ (ys : List ℕ). ys ++ k ∷ []) h
+grown xs (Two i j) k h = subst (λ (ys : List ℕ). IsFew (More i j 3) (ys ++ k ∷ [])) (sym h) (omega arith, refl, refl, refl)
+grown xs (More i j n) k h = longer xs i j n k h
 
-pub two_few : (xs : List ℕ) (f : Few) → IsFew f xs → f.count ≡ 2 → xs ≡ f.first ∷ f.second ∷ []
-two_few [] f h e = let w = h.count in absurd (omega arith)
-two_few (x ∷ []) f h e = let w = h.count in absurd (omega arith)
-two_few (x ∷ y ∷ []) f h e = ap (λ u. u ∷ y ∷ []) (sym (h.first (omega arith))) ∙ ap (λ u. f.first ∷ u ∷ []) (sym (h.second (omega arith)))
-two_few (x ∷ y ∷ z ∷ xs) f h e = let w = h.count in absurd (omega arith)
+pub few_more : (p : ℕ → Bool) (i : ℕ) (f : Few) → p i ≡ true → IsFew f (places p i) → IsFew (more_of f i) (places p (i + 1))
+few_more p i f e h = rw add-one (subst (λ b. IsFew (more_of f i) (places p i ++ cond b (i ∷ []) [])) (sym e) (grown (places p i) f i h))
+
+pub few_same : (p : ℕ → Bool) (i : ℕ) (f : Few) → p i ≡ false → IsFew f (places p i) → IsFew f (places p (i + 1))
+few_same p i f e h = rw add-one (subst (λ b. IsFew f (places p i ++ cond b (i ∷ []) [])) (sym e) (subst (IsFew f) (sym (append-nil (places p i))) h))

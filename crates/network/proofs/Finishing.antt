@@ -1,55 +1,83 @@
 -- The kinds of all nodes, and the network that they make.
-use Rattle.std.proofs.Common.{◌≡◌, ℕ, ◌+◌, ◌<◌, ◌≤◌, true, false, List, length, get_or, set, sym, refl, subst, ⊎_elim, arith}
-use Rattle.std.proofs.lemmas.Bool.{both_ways, cases_eq}
-use Rattle.std.proofs.lemmas.List.{get_or-set_same, get_or-set_other}
+use Rattle.std.proofs.Common.{◌≡◌, ℕ, zero, suc, ◌+◌, ◌<◌, ◌≤◌, Bool, cond, eqb, List, [], ◌∷◌, ◌++◌, Option, None, length, get_or, set, take, sym, refl, ap, ◌∙◌, subst, ⊎_elim, arith}
+use Rattle.std.proofs.lemmas.Bool.{cases_eq}
+use Rattle.std.proofs.lemmas.List.{get_or-set_same, get_or-set_other, get_or-take, length-take-le}
+use Rattle.network.specs.declared.link.Link.{Link}
 use Rattle.network.specs.declared.kind.NodeKind.{NodeKind}
-use Rattle.network.specs.declared.kind.NodeKind.TheVariants.{Nothing, Entrance, Exit, Mainline, Merge, Diverge}
+use Rattle.network.specs.declared.kind.NodeKind.TheVariants.{Entrance, Exit, Mainline, Merge, Diverge}
 use Rattle.network.specs.declared.layout.Layout.{Layout}
-use Rattle.network.specs.Net.{Net, Kind}
-use Rattle.network.specs.Layouts.{drawn, IsKind, Right}
-use Rattle.network.specs.Scans.{IsOrNone}
+use Rattle.network.specs.Net.{Net, Kind, entrance, exit, mainline, merge, diverge, places, entering, leaving}
+use Rattle.network.specs.Layouts.{blank_link, drawn, link_of, Has, IsKind, IsTold, Right}
+use Rattle.network.specs.Scans.{links_net}
 use Rattle.network.specs.Begun.{Begun}
-use Rattle.network.specs.Drafts.{is_kind, LowestOdd}
-use Rattle.network.proofs.Rights.{kind_of}
+use Rattle.network.specs.Drafts.{LowestOdd}
+use Rattle.network.proofs.Rights.{told_kind}
 
-module _ (net : Net) (n : ℕ) where
-  pub some_kind : (k : NodeKind) → IsOrNone net n k → is_kind k ≡ true → IsKind net n k
-  some_kind Nothing h e = absurd (both_ways false refl e)
-  some_kind (Entrance j) h e = h
-  some_kind (Exit i) h e = h
-  some_kind (Mainline i j) h e = h
-  some_kind (Merge i i' j) h e = h
-  some_kind (Diverge i j j') h e = h
+places_same : (p q : ℕ → Bool) (n : ℕ) → ((i : ℕ) → i < n → p i ≡ q i) → places p n ≡ places q n
+places_same p q zero h = refl
+places_same p q (suc n) h =
+    ap (λ (xs : List ℕ). xs ++ cond (p n) (n ∷ []) []) (places_same p q n (λ i l. h i (omega arith)))
+    ∙ ap (λ b. places q n ++ cond b (n ∷ []) []) (h n (omega arith))
 
-  no_kind : (k : NodeKind) → IsOrNone net n k → is_kind k ≡ false → Kind net n → ⊥
-  no_kind Nothing h e = h
-  no_kind (Entrance j) h e = absurd (both_ways true e refl)
-  no_kind (Exit i) h e = absurd (both_ways true e refl)
-  no_kind (Mainline i j) h e = absurd (both_ways true e refl)
-  no_kind (Merge i i' j) h e = absurd (both_ways true e refl)
-  no_kind (Diverge i j j') h e = absurd (both_ways true e refl)
+-- the links of a layout, cut to as many as there are, stand at a node as the layout's do
+module _ (l : Layout) (n : ℕ) (fits : l.count ≤ length l.links) where
+  abbrev cut : Net
+  cut = links_net (take l.count l.links)
 
-  pub lowest : (ks : List NodeKind) (k : NodeKind) → ((m : ℕ) → 1 ≤ m → m < n → IsKind net m (get_or ks m Nothing))
-      → 1 ≤ n → n ≤ net.nodes → IsOrNone net n k → is_kind k ≡ false → LowestOdd net n
-  lowest ks k below l m h e = record { least = l; most = m; odd = no_kind k h e; below = λ j a b. kind_of net j (get_or ks j Nothing) (below j a b) }
+  long : cut.links ≡ l.count
+  long = length-take-le l.count l.links fits
 
-  pub more_kinds : (ks : List NodeKind) (k : NodeKind) → length ks ≡ 33 → n < 33 → ((m : ℕ) → 1 ≤ m → m < n → IsKind net m (get_or ks m Nothing))
-      → IsKind net n k → (m : ℕ) → 1 ≤ m → m < n + 1 → IsKind net m (get_or (set ks n k) m Nothing)
-  more_kinds ks k w f below h m a b = ⊎_elim
-      (λ (e : m ≡ n). subst (λ j. IsKind net j (get_or (set ks n k) j Nothing)) (sym e) (subst (IsKind net n) (sym (get_or-set_same ks n k Nothing (omega arith))) h))
-      (λ ne. subst (IsKind net m) (sym (get_or-set_other ks n m k Nothing ne)) (below m a (omega (arith, ne))))
+  same : (p : Link → Bool) → places (λ i. p (cut.link i)) cut.links ≡ places (λ i. p (link_of l i)) l.count
+  same p = ap (places (λ i. p (cut.link i))) long ∙ places_same (λ i. p (cut.link i)) (λ i. p (link_of l i)) l.count (λ i h. ap p (get_or-take l.count l.links i blank_link h))
+
+  same_ins : entering cut n ≡ entering (drawn l) n
+  same_ins = same (λ k. eqb k.to n)
+
+  same_outs : leaving cut n ≡ leaving (drawn l) n
+  same_outs = same (λ k. eqb k.from n)
+
+  has_cut : (ins outs : List ℕ) → Has cut n ins outs → Has (drawn l) n ins outs
+  has_cut ins outs h = (sym same_ins ∙ h.0, sym same_outs ∙ h.1)
+
+  pub kind_cut : (k : NodeKind) → IsKind cut n k → IsKind (drawn l) n k
+  kind_cut (Entrance j) h = has_cut [] (j ∷ []) h
+  kind_cut (Exit i) h = has_cut (i ∷ []) [] h
+  kind_cut (Mainline i j) h = has_cut (i ∷ []) (j ∷ []) h
+  kind_cut (Merge i i' j) h = has_cut (i ∷ i' ∷ []) (j ∷ []) h
+  kind_cut (Diverge i j j') h = has_cut (i ∷ []) (j ∷ j' ∷ []) h
+
+  pub odd_cut : (Kind cut n → ⊥) → Kind (drawn l) n → ⊥
+  odd_cut h (entrance j e f) = h (entrance j (same_ins ∙ e) (same_outs ∙ f))
+  odd_cut h (exit i e f) = h (exit i (same_ins ∙ e) (same_outs ∙ f))
+  odd_cut h (mainline i j e f) = h (mainline i j (same_ins ∙ e) (same_outs ∙ f))
+  odd_cut h (merge i i' j e f) = h (merge i i' j (same_ins ∙ e) (same_outs ∙ f))
+  odd_cut h (diverge i j j' e f) = h (diverge i j j' (same_ins ∙ e) (same_outs ∙ f))
+
+-- the kinds of all nodes below n
+abbrev pub Told : Net → ℕ → List (Option NodeKind) → Type 0
+Told net n ks = (k : ℕ) → 1 ≤ k → k ≤ net.nodes → k < n → IsTold net k (get_or ks k None)
+
+module _ (net : Net) (n : ℕ) (ks : List (Option NodeKind)) (below : Told net n ks) where
+  pub lowest : 1 ≤ n → n ≤ net.nodes → (Kind net n → ⊥) → LowestOdd net n
+  lowest l m h = record { least = l; most = m; odd = h; below = λ j a b. told_kind net j (get_or ks j None) (below j a (omega (arith, m)) b) }
+
+  pub more_told : (o : Option NodeKind) → n < length ks → (1 ≤ n → n ≤ net.nodes → IsTold net n o) → Told net (n + 1) (set ks n o)
+  more_told o f h m a b c = ⊎_elim
+      (λ (e : m ≡ n). subst (λ j. IsTold net j (get_or (set ks n o) j None)) (sym e) (subst (IsTold net n) (sym (get_or-set_same ks n o None f)) (h (omega arith) (omega arith))))
+      (λ ne. subst (IsTold net m) (sym (get_or-set_other ks n m o None ne)) (below m a b (omega (arith, ne))))
       (cases_eq m n)
 
 -- the layout with the kinds of its nodes
-abbrev pub kinded : Layout → List NodeKind → Layout
+abbrev pub kinded : Layout → List (Option NodeKind) → Layout
 kinded l ks = record { nodes = l.nodes; count = l.count; links = l.links; kinds = ks; routes = l.routes }
 
-pub right_kinded : (l : Layout) (w : ℕ) (ks : List NodeKind) → Begun l w → w ≤ l.count → length ks ≡ 33
-    → ((k : ℕ) → 1 ≤ k → k ≤ l.nodes → IsKind (drawn l) k (get_or ks k Nothing)) → Right (kinded l ks)
+pub right_kinded : (l : Layout) (w : ℕ) (ks : List (Option NodeKind)) → Begun l w → w ≤ l.count → length ks ≡ 33
+    → ((k : ℕ) → 1 ≤ k → k ≤ l.nodes → IsTold (drawn l) k (get_or ks k None)) → Right (kinded l ks)
 right_kinded l w ks b h wide each = record {
   whole = b.whole;
   wide = wide;
   ways = b.ways;
+  way = b.way;
   nodes_least = b.nodes_least;
   nodes = b.nodes;
   count_least = omega (arith, b.wanted_least);

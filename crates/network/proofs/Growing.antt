@@ -1,12 +1,12 @@
 -- A draft and its links.
-use Rattle.std.proofs.Common.{◌≡◌, ℕ, ◌+◌, ◌*◌, ◌<◌, ◌≤◌, Bool, true, false, cond, ◌&&◌, eqb, ltb, List, length, get_or, set, replicate, Some, None, Option, sym, refl, ap, ◌∙◌, subst, ⊎_elim, arith}
+use Rattle.std.proofs.Common.{◌≡◌, ℕ, ◌+◌, ◌<◌, ◌≤◌, cond, eqb, List, [], length, get_or, set, replicate, Some, None, Option, sym, ap, ◌∙◌, subst, ⊎_elim, arith}
 use mathlib.Core.Logic.{∥∥₁_elim}
 use native.Mathlib.Nat.{ℕ_set}
 use native.Mathlib.Bridge.{le_prop}
 use Rattle.std.proofs.lemmas.Bool.{cases_eq, cases_lt, eq-eqb, ne_eqb, cond-true, cond-false}
 use Rattle.std.proofs.lemmas.List.{length-set, length-replicate, get_or-set_same, get_or-set_other, get_or-replicate, get_or_past}
 use Rattle.network.specs.declared.link.Link.{Link}
-use Rattle.network.specs.declared.kind.NodeKind.TheVariants.{Nothing}
+use Rattle.network.specs.declared.kind.NodeKind.{NodeKind}
 use Rattle.network.specs.declared.layout.Layout.{Layout}
 use Rattle.network.specs.declared.draft.Draft.{Draft}
 use Rattle.network.specs.Net.{SoundLink}
@@ -20,6 +20,7 @@ begun_prop l w a b = λ z. record {
   whole = ℕ_set _ _ a.whole b.whole z;
   wide = ℕ_set _ _ a.wide b.wide z;
   ways = ℕ_set _ _ a.ways b.ways z;
+  way = λ n h. ℕ_set _ _ (a.way n h) (b.way n h) z;
   nodes_least = le_prop a.nodes_least b.nodes_least z;
   nodes = le_prop a.nodes b.nodes z;
   wanted_least = le_prop a.wanted_least b.wanted_least z;
@@ -36,16 +37,15 @@ begun_of d = ∥∥₁_elim d.begun (begun_prop d.layout d.wanted) (λ r. r)
 alike : {X : Type 0} (n i : ℕ) (a : X) → get_or (replicate n a) i a ≡ a
 alike n i a = ⊎_elim (λ (h : i < n). get_or-replicate n i a a h) (λ (h : n ≤ i). get_or_past (replicate n a) i a (subst (λ m. m ≤ i) (sym (length-replicate n a)) h)) (cases_lt i n)
 
-same_cond : {X : Type 0} (b : Bool) (x y : X) → x ≡ y → cond b x y ≡ y
-same_cond true x y e = e
-same_cond false x y e = refl
-
-no_row : (m at : ℕ) (b : Bool) → cond b (get_or (replicate {A = Option ℕ} m None) at None) None ≡ None
-no_row m at b = same_cond b _ None (alike m at None)
+no_row : (m n x : ℕ) → get_or (get_or (replicate m (replicate {A = Option ℕ} m None)) n []) x None ≡ None
+no_row m n x = ⊎_elim
+    (λ (h : n < m). ap (λ r. get_or r x None) (get_or-replicate m n (replicate {A = Option ℕ} m None) [] h) ∙ alike m x None)
+    (λ (h : m ≤ n). ap (λ r. get_or r x None) (get_or_past (replicate m (replicate {A = Option ℕ} m None)) n [] (subst (λ k. k ≤ n) (sym (length-replicate m (replicate {A = Option ℕ} m None))) h)))
+    (cases_lt n m)
 
 pub empty_draws : (nodes : ℕ) → drawn (empty_layout nodes) ≡ bare_net nodes
 unfolding empty_layout
-empty_draws nodes = λ z. record { nodes = nodes; links = 0; link = λ i. alike 48 i blank_link z; route = λ n x. no_row 1089 (n * 33 + x) (ltb n 33 && ltb x 33) z }
+empty_draws nodes = λ z. record { nodes = nodes; links = 0; link = λ i. alike 48 i blank_link z; route = λ n x. no_row 33 n x z }
 
 none_some : (o : Option ℕ) (j : ℕ) → o ≡ None → o ≡ Some j → ⊥
 none_some o j p q = let z : ◌≡◌ {A = ℕ} 0 1 = cc in omega arith
@@ -54,15 +54,16 @@ pub begun_empty : (nodes w : ℕ) → 2 ≤ nodes → nodes ≤ 32 → 1 ≤ w �
 unfolding empty_layout
 begun_empty nodes w a b c d = record {
   whole = length-replicate 48 blank_link;
-  wide = length-replicate 33 Nothing;
-  ways = length-replicate {A = Option ℕ} 1089 None;
+  wide = length-replicate {A = Option NodeKind} 33 None;
+  ways = length-replicate 33 (replicate {A = Option ℕ} 33 None);
+  way = λ n h. ap length (get_or-replicate 33 n (replicate {A = Option ℕ} 33 None) [] h) ∙ length-replicate {A = Option ℕ} 33 None;
   nodes_least = a;
   nodes = b;
   wanted_least = c;
   wanted_most = d;
   fits = omega arith;
   link = λ i h. absurd (omega arith);
-  no_route = λ k x j e. none_some _ j (no_row 1089 (k * 33 + x) (ltb k 33 && ltb x 33)) e;
+  no_route = λ k x j e. none_some _ j (no_row 33 k x) e;
 }
 
 -- the layout with one link more
@@ -98,6 +99,7 @@ begun_more l w k b h r u = record {
   whole = length-set l.links l.count k ∙ b.whole;
   wide = b.wide;
   ways = b.ways;
+  way = b.way;
   nodes_least = b.nodes_least;
   nodes = b.nodes;
   wanted_least = b.wanted_least;

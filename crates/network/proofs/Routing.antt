@@ -1,13 +1,14 @@
 -- Nodes that a route names, and a route row more.
-use Rattle.std.proofs.Common.{◌≡◌, ℕ, ◌+◌, ◌-◌, ◌*◌, ◌<◌, ◌≤◌, Bool, true, false, cond, ◌&&◌, eqb, ltb, ◌⊎◌, List, [], ◌∷◌, length, get_or, set, Some, None, Option, sym, refl, ap, ◌∙◌, subst, inl, inr, arith}
-use Rattle.std.proofs.lemmas.Bool.{both_ways, cases_eq, eq-eqb, ne_eqb, lt-ltb, ltb-true, eqb-true, cond-true, cond-false}
+use Rattle.std.proofs.Common.{◌≡◌, ℕ, ◌-◌, ◌<◌, ◌≤◌, Bool, true, false, cond, ◌&&◌, eqb, ⊎_elim, List, [], ◌∷◌, length, get_or, set, Some, None, Option, sym, refl, ap, ◌∙◌, subst, arith}
+use Rattle.std.proofs.lemmas.Bool.{cases_eq, eq-eqb, ne_eqb, eqb-true, cond-true, cond-false, and_parts, and_left}
 use Rattle.std.proofs.lemmas.List.{length-set, get_or-set_same, get_or-set_other}
 use Rattle.network.specs.declared.kind.NodeKind.{NodeKind}
-use Rattle.network.specs.declared.kind.NodeKind.TheVariants.{Nothing, Entrance, Exit, Mainline, Merge, Diverge}
+use Rattle.network.specs.declared.kind.NodeKind.TheVariants.{Entrance, Exit, Mainline, Merge, Diverge}
 use Rattle.network.specs.declared.layout.Layout.{Layout}
 use Rattle.network.specs.Net.{Net, entering}
-use Rattle.network.specs.Layouts.{drawn, link_of, route_at, kind_at, IsKind, is_diverge, is_exit, Leads, Right}
+use Rattle.network.specs.Layouts.{drawn, link_of, route_at, kind_at, IsTold, is_diverge, is_exit, Leads, Right}
 use Rattle.network.specs.Drafts.{IsDiverge, IsExit, RouteFits, with_route}
+use Rattle.network.proofs.Growing.{set_reads}
 use Rattle.network.proofs.Sorts.{in₁}
 
 module _ (l : Layout) (r : Right l) where
@@ -18,10 +19,6 @@ module _ (l : Layout) (r : Right l) where
       let s = r.link i w.0 in
       (omega (arith, s.from_node, s.upward, w.1), omega (arith, s.to_node, w.1))
 
-  pub outside : (n i : ℕ) (is : List ℕ) → (n < 1) ⊎ (l.nodes < n) → entering (drawn l) n ≡ i ∷ is → ⊥
-  outside n i is (inl h) e = let w = node_in n i is e in omega arith
-  outside n i is (inr h) e = let w = node_in n i is e in omega arith
-
   pub fits_in : (n x k : ℕ) → RouteFits (drawn l) n x k → (n ≤ 32) × (x ≤ 32) × (1 ≤ k) × (k ≤ 48)
   fits_in n x k f =
       let d = f.diverge in
@@ -30,104 +27,60 @@ module _ (l : Layout) (r : Right l) where
       let b = node_in x e.0 [] e.1.0 in
       (omega (arith, r.nodes, a.1), omega (arith, r.nodes, b.1), f.leaves.least, omega (arith, r.count, f.leaves.most))
 
-diverges : (net : Net) (n : ℕ) (k : NodeKind) → IsKind net n k → IsDiverge net n → is_diverge k ≡ true
-diverges net n Nothing h d = absurd h
-diverges net n (Entrance j) h d = absurd (clash (sym h.0 ∙ d.3))
-  where
-    clash : ◌≡◌ {A = List ℕ} [] (d.0 ∷ []) → ⊥
-    clash e = let z : ◌≡◌ {A = ℕ} 0 1 = cc in omega arith
-diverges net n (Exit i) h d = absurd (clash (sym h.1 ∙ d.4))
-  where
-    clash : ◌≡◌ {A = List ℕ} [] (d.1 ∷ d.2 ∷ []) → ⊥
-    clash e = let z : ◌≡◌ {A = ℕ} 0 1 = cc in omega arith
-diverges net n (Mainline i j) h d = absurd (clash (sym h.1 ∙ d.4))
-  where
-    clash : ◌≡◌ {A = List ℕ} (j ∷ []) (d.1 ∷ d.2 ∷ []) → ⊥
-    clash e = let y : ◌≡◌ {A = List ℕ} [] (d.2 ∷ []) = cc in let z : ◌≡◌ {A = ℕ} 0 1 = cc in omega arith
-diverges net n (Merge i i' j) h d = absurd (clash (sym h.1 ∙ d.4))
-  where
-    clash : ◌≡◌ {A = List ℕ} (j ∷ []) (d.1 ∷ d.2 ∷ []) → ⊥
-    clash e = let y : ◌≡◌ {A = List ℕ} [] (d.2 ∷ []) = cc in let z : ◌≡◌ {A = ℕ} 0 1 = cc in omega arith
-diverges net n (Diverge i j j') h d = refl
+diverges : (net : Net) (n : ℕ) (k : Option NodeKind) → IsTold net n k → IsDiverge net n → is_diverge k ≡ true
+diverges net n None h d = absurd h
+diverges net n (Some (Entrance j)) h d = absurd (let z : ◌≡◌ {A = ℕ} 0 1 = ap length (sym h.0 ∙ d.3) in omega arith)
+diverges net n (Some (Exit i)) h d = absurd (let z : ◌≡◌ {A = ℕ} 0 2 = ap length (sym h.1 ∙ d.4) in omega arith)
+diverges net n (Some (Mainline i j)) h d = absurd (let z : ◌≡◌ {A = ℕ} 1 2 = ap length (sym h.1 ∙ d.4) in omega arith)
+diverges net n (Some (Merge i i' j)) h d = absurd (let z : ◌≡◌ {A = ℕ} 1 2 = ap length (sym h.1 ∙ d.4) in omega arith)
+diverges net n (Some (Diverge i j j')) h d = refl
 
-exits : (net : Net) (n : ℕ) (k : NodeKind) → IsKind net n k → IsExit net n → is_exit k ≡ true
-exits net n Nothing h d = absurd h
-exits net n (Entrance j) h d = absurd (clash (sym h.0 ∙ d.1.0))
-  where
-    clash : ◌≡◌ {A = List ℕ} [] (d.0 ∷ []) → ⊥
-    clash e = let z : ◌≡◌ {A = ℕ} 0 1 = cc in omega arith
-exits net n (Exit i) h d = refl
-exits net n (Mainline i j) h d = absurd (clash (sym d.1.1 ∙ h.1))
-  where
-    clash : ◌≡◌ {A = List ℕ} [] (j ∷ []) → ⊥
-    clash e = let z : ◌≡◌ {A = ℕ} 0 1 = cc in omega arith
-exits net n (Merge i i' j) h d = absurd (clash (sym d.1.1 ∙ h.1))
-  where
-    clash : ◌≡◌ {A = List ℕ} [] (j ∷ []) → ⊥
-    clash e = let z : ◌≡◌ {A = ℕ} 0 1 = cc in omega arith
-exits net n (Diverge i j j') h d = absurd (clash (sym d.1.1 ∙ h.1))
-  where
-    clash : ◌≡◌ {A = List ℕ} [] (j ∷ j' ∷ []) → ⊥
-    clash e = let z : ◌≡◌ {A = ℕ} 0 1 = cc in omega arith
+exits : (net : Net) (n : ℕ) (k : Option NodeKind) → IsTold net n k → IsExit net n → is_exit k ≡ true
+exits net n None h d = absurd h
+exits net n (Some (Entrance j)) h d = absurd (let z : ◌≡◌ {A = ℕ} 0 1 = ap length (sym h.0 ∙ d.1.0) in omega arith)
+exits net n (Some (Exit i)) h d = refl
+exits net n (Some (Mainline i j)) h d = absurd (let z : ◌≡◌ {A = ℕ} 0 1 = ap length (sym d.1.1 ∙ h.1) in omega arith)
+exits net n (Some (Merge i i' j)) h d = absurd (let z : ◌≡◌ {A = ℕ} 0 1 = ap length (sym d.1.1 ∙ h.1) in omega arith)
+exits net n (Some (Diverge i j j')) h d = absurd (let z : ◌≡◌ {A = ℕ} 0 2 = ap length (sym d.1.1 ∙ h.1) in omega arith)
+
+-- the table with an entry written
+abbrev pub written : List (List (Option ℕ)) → ℕ → ℕ → Option ℕ → List (List (Option ℕ))
+written t n x o = set t n (set (get_or t n []) x o)
 
 -- the layout with one route row more
 abbrev pub routed : Layout → ℕ → ℕ → ℕ → Layout
-routed l n x j = record { nodes = l.nodes; count = l.count; links = l.links; kinds = l.kinds; routes = set l.routes (n * 33 + x) (Some j) }
+routed l n x j = record { nodes = l.nodes; count = l.count; links = l.links; kinds = l.kinds; routes = written l.routes n x (Some j) }
 
-same_spot : (m y n x : ℕ) → y < 33 → x < 33 → m * 33 + y ≡ n * 33 + x → (m ≡ n) × (y ≡ x)
-same_spot m y n x a b e = (omega arith, omega arith)
-
-and_true : (p q : Bool) → p ≡ true → q ≡ true → (p && q) ≡ true
-and_true true q e f = f
-and_true false q e f = e
-
-and_first : (p q : Bool) → (p && q) ≡ true → p ≡ true
-and_first true q e = refl
-and_first false q e = e
-
-and_second : (p q : Bool) → (p && q) ≡ true → q ≡ true
-and_second true q e = e
-and_second false q e = absurd (both_ways false refl e)
-
-and_left : (p q : Bool) → p ≡ false → (p && q) ≡ false
-and_left true q e = absurd (both_ways true e refl)
-and_left false q e = refl
-
-and_right : (p q : Bool) → q ≡ false → (p && q) ≡ false
-and_right true q e = e
-and_right false q e = refl
-
-branch : {X : Type 0} (p : Bool) (a b c : X) → (p ≡ true → a ≡ b) → cond p a c ≡ cond p b c
-branch true a b c h = h refl
-branch false a b c h = refl
-
--- the table with one row more reads as that row there, and as before elsewhere
-spot_reads : (xs : List (Option ℕ)) (n x m y : ℕ) (o : Option ℕ) → length xs ≡ 1089 → n < 33 → x < 33
-    → cond (ltb m 33 && ltb y 33) (get_or (set xs (n * 33 + x) o) (m * 33 + y) None) None ≡ cond (eqb m n && eqb y x) o (cond (ltb m 33 && ltb y 33) (get_or xs (m * 33 + y) None) None)
-spot_reads xs n x m y o w a b = go (cases_eq m n) (cases_eq y x)
+-- the table reads as that entry there, and as before elsewhere
+spot_reads : (t : List (List (Option ℕ))) (n x m y : ℕ) (o : Option ℕ) → n < length t → x < length (get_or t n [])
+    → get_or (get_or (written t n x o) m []) y None ≡ cond (eqb m n && eqb y x) o (get_or (get_or t m []) y None)
+spot_reads t n x m y o a b = ⊎_elim
+    (λ (e : m ≡ n). subst (λ i. get_or (get_or (written t n x o) i []) y None ≡ cond (eqb i n && eqb y x) o (get_or (get_or t i []) y None)) (sym e) here)
+    (λ ne. ap (λ r. get_or r y None) (get_or-set_other t n m (set (get_or t n []) x o) [] ne) ∙ sym (cond-false _ _ _ (and_left (eqb m n) (eqb y x) (ne_eqb m n ne))))
+    (cases_eq m n)
   where
-    moved : (eqb m n && eqb y x) ≡ false → ((m ≡ n) × (y ≡ x) → ⊥)
-        → cond (ltb m 33 && ltb y 33) (get_or (set xs (n * 33 + x) o) (m * 33 + y) None) None ≡ cond (eqb m n && eqb y x) o (cond (ltb m 33 && ltb y 33) (get_or xs (m * 33 + y) None) None)
-    moved e ne = branch (ltb m 33 && ltb y 33) _ _ _ (λ t. get_or-set_other xs (n * 33 + x) (m * 33 + y) o None (λ q. ne (same_spot m y n x (ltb-true y 33 (and_second (ltb m 33) (ltb y 33) t)) b q))) ∙ sym (cond-false _ _ _ e)
+    here : get_or (get_or (written t n x o) n []) y None ≡ cond (eqb n n && eqb y x) o (get_or (get_or t n []) y None)
+    here = ap (λ r. get_or r y None) (get_or-set_same t n (set (get_or t n []) x o) [] a)
+        ∙ set_reads (get_or t n []) x y o None b
+        ∙ ap (λ c. cond (c && eqb y x) o (get_or (get_or t n []) y None)) (sym (eq-eqb n n refl))
 
-    here : (m ≡ n) → (y ≡ x)
-        → cond (ltb m 33 && ltb y 33) (get_or (set xs (n * 33 + x) o) (m * 33 + y) None) None ≡ cond (eqb m n && eqb y x) o (cond (ltb m 33 && ltb y 33) (get_or xs (m * 33 + y) None) None)
-    here e f = cond-true _ _ _ (and_true (ltb m 33) (ltb y 33) (lt-ltb m 33 (omega arith)) (lt-ltb y 33 (omega arith)))
-        ∙ (ap (λ at. get_or (set xs (n * 33 + x) o) at None) (let q : m * 33 + y ≡ n * 33 + x = omega arith in q) ∙ get_or-set_same xs (n * 33 + x) o None (omega arith))
-        ∙ sym (cond-true _ _ _ (and_true (eqb m n) (eqb y x) (eq-eqb m n e) (eq-eqb y x f)))
-
-    go : (m ≡ n) ⊎ (m ≡ n → ⊥) → (y ≡ x) ⊎ (y ≡ x → ⊥)
-        → cond (ltb m 33 && ltb y 33) (get_or (set xs (n * 33 + x) o) (m * 33 + y) None) None ≡ cond (eqb m n && eqb y x) o (cond (ltb m 33 && ltb y 33) (get_or xs (m * 33 + y) None) None)
-    go (inl e) (inl f) = here e f
-    go (inl e) (inr f) = moved (and_right (eqb m n) (eqb y x) (ne_eqb y x f)) (λ q. f q.1)
-    go (inr e) f = moved (and_left (eqb m n) (eqb y x) (ne_eqb m n e)) (λ q. e q.0)
+row_length : (t : List (List (Option ℕ))) (n x m : ℕ) (o : Option ℕ) → n < length t → length (get_or (written t n x o) m []) ≡ length (get_or t m [])
+row_length t n x m o a = ⊎_elim
+    (λ (e : m ≡ n). subst (λ i. length (get_or (written t n x o) i []) ≡ length (get_or t i [])) (sym e) (ap length (get_or-set_same t n (set (get_or t n []) x o) [] a) ∙ length-set (get_or t n []) x o))
+    (λ ne. ap length (get_or-set_other t n m (set (get_or t n []) x o) [] ne))
+    (cases_eq m n)
 
 module _ (l : Layout) (r : Right l) (n x k : ℕ) (f : RouteFits (drawn l) n x k) where
+  reads : (m y : ℕ) → route_at (routed l n x (k - 1)) m y ≡ cond (eqb m n && eqb y x) (Some (k - 1)) (route_at l m y)
+  reads m y =
+      let q = fits_in l r n x k f in
+      spot_reads l.routes n x m y (Some (k - 1)) (omega (arith, r.ways)) (let w = r.way n (omega arith) in omega arith)
+
   pub routed_draws : drawn (routed l n x (k - 1)) ≡ with_route (drawn l) n x (k - 1)
-  routed_draws = let q = fits_in l r n x k f in λ z. record { nodes = l.nodes; links = l.count; link = link_of l; route = λ m y. spot_reads l.routes n x m y (Some (k - 1)) r.ways (omega arith) (omega arith) z }
+  routed_draws = λ z. record { nodes = l.nodes; links = l.count; link = link_of l; route = λ m y. reads m y z }
 
   leads : (m y j : ℕ) → route_at (routed l n x (k - 1)) m y ≡ Some j → Leads (routed l n x (k - 1)) m y j
-  leads m y j e = go (eqb m n && eqb y x) refl (sym (spot_reads l.routes n x m y (Some (k - 1)) r.ways (let q = fits_in l r n x k f in omega arith) (let q = fits_in l r n x k f in omega arith)) ∙ e)
+  leads m y j e = go (eqb m n && eqb y x) refl (sym (reads m y) ∙ e)
     where
       new : m ≡ n → y ≡ x → k - 1 ≡ j → Leads (routed l n x (k - 1)) m y j
       new a b c =
@@ -149,7 +102,8 @@ module _ (l : Layout) (r : Right l) (n x k : ℕ) (f : RouteFits (drawn l) n x k
       go true q c =
           let z = sym (cond-true (eqb m n && eqb y x) (Some (k - 1)) (route_at l m y) q) ∙ c in
           let w : k - 1 ≡ j = cc in
-          new (eqb-true m n (and_first (eqb m n) (eqb y x) q)) (eqb-true y x (and_second (eqb m n) (eqb y x) q)) w
+          let both = and_parts (eqb m n) (eqb y x) q in
+          new (eqb-true m n both.0) (eqb-true y x both.1) w
       go false q c =
           let w = r.rows m y j (sym (cond-false (eqb m n && eqb y x) (Some (k - 1)) (route_at l m y) q) ∙ c) in
           record { here = w.here; leaves = w.leaves; diverge = w.diverge; exit = w.exit; node = w.node; goal_least = w.goal_least; goal_most = w.goal_most }
@@ -158,7 +112,8 @@ module _ (l : Layout) (r : Right l) (n x k : ℕ) (f : RouteFits (drawn l) n x k
   right_routed = record {
     whole = r.whole;
     wide = r.wide;
-    ways = length-set l.routes (n * 33 + x) (Some (k - 1)) ∙ r.ways;
+    ways = length-set l.routes n (set (get_or l.routes n []) x (Some (k - 1))) ∙ r.ways;
+    way = λ m h. row_length l.routes n x m (Some (k - 1)) (let q = fits_in l r n x k f in omega (arith, r.ways)) ∙ r.way m h;
     nodes_least = r.nodes_least;
     nodes = r.nodes;
     count_least = r.count_least;

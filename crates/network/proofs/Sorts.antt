@@ -3,7 +3,7 @@ use Rattle.std.proofs.Common.{◌≡◌, ℕ, zero, suc, ◌<◌, Bool, true, fa
 use Rattle.network.specs.Net.{Net, places, entering, leaving}
 use Rattle.network.proofs.Places.{In, entered, left_from, from_places}
 use Rattle.network.specs.declared.kind.NodeKind.{NodeKind}
-use Rattle.network.specs.declared.kind.NodeKind.TheVariants.{Nothing, Entrance, Exit, Mainline, Merge, Diverge}
+use Rattle.network.specs.declared.kind.NodeKind.TheVariants.{Entrance, Exit, Mainline, Merge, Diverge}
 use Rattle.network.specs.declared.layout.Layout.{Layout}
 use Rattle.network.specs.Layouts.{drawn, IsKind, Inside}
 
@@ -21,7 +21,6 @@ module _ (net : Net) (n : ℕ) where
   off₂ j j' js e = left_from net n j' (subst (In j') (sym e) (inr (inl refl)))
 
 pub kind_inside : (n : Layout) (k : ℕ) (x : NodeKind) → IsKind (drawn n) k x → Inside n.count x
-kind_inside n k Nothing h = tt
 kind_inside n k (Entrance j) h = (off₁ (drawn n) k j [] h.1).0
 kind_inside n k (Exit i) h = (in₁ (drawn n) k i [] h.0).0
 kind_inside n k (Mainline i j) h = ((in₁ (drawn n) k i [] h.0).0, (off₁ (drawn n) k j [] h.1).0)

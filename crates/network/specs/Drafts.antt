@@ -1,8 +1,8 @@
 -- How a network grows: link by link, then route by route.
-use Rattle.std.specs.Prelude.{◌≡◌, ℕ, ◌+◌, ◌-◌, ◌<◌, ◌≤◌, Bool, true, false, cond, ◌&&◌, List, [], ◌∷◌, length, replicate, Some, None, Ok, Err, Option, Result, ◌==◌, nat_le, slice_index_or, slice_set}
+use Rattle.std.specs.Prelude.{◌≡◌, ℕ, ◌+◌, ◌-◌, ◌<◌, ◌≤◌, Bool, cond, ◌&&◌, List, [], ◌∷◌, length, replicate, Some, None, Ok, Err, Option, Result, ◌==◌, nat_le, slice_index_or, slice_set}
 use Rattle.network.specs.declared.link.Link.{Link}
 use Rattle.network.specs.declared.kind.NodeKind.{NodeKind}
-use Rattle.network.specs.declared.kind.NodeKind.TheVariants.{Nothing, Entrance, Exit, Mainline, Merge, Diverge}
+use Rattle.network.specs.declared.kind.NodeKind.TheVariants.{Entrance, Exit}
 use Rattle.network.specs.declared.layout.Layout.{Layout}
 use Rattle.network.specs.declared.network.Network.{Network}
 use Rattle.network.specs.declared.draft.Draft.{Draft}
@@ -14,7 +14,7 @@ use Rattle.network.specs.declared.draft.RouteFault.{RouteFault}
 use Rattle.network.specs.declared.draft.RouteFault.TheVariants.{Misfit, Second}
 use Rattle.network.specs.Net.{Net, Kind, entering, leaving}
 use Rattle.network.specs.Net as law
-use Rattle.network.specs.Layouts.{blank_link, drawn, IsKind}
+use Rattle.network.specs.Layouts.{blank_link, drawn, IsTold}
 use Rattle.network.specs.Nets.{net_of}
 
 -- so many nodes, and no link yet
@@ -36,8 +36,8 @@ fresh_link = record { from = 1; to = 2; free = 1; wave = 1; capacity = 1; storag
 abbrev pub fresh_net : Net
 fresh_net = with_link (bare_net 2) fresh_link
 
-abbrev pub fresh_kinds : List NodeKind
-fresh_kinds = slice_set (slice_set (replicate 33 Nothing) 1 (Entrance 0)) 2 (Exit 0)
+abbrev pub fresh_kinds : List (Option NodeKind)
+fresh_kinds = slice_set (slice_set (replicate 33 None) 1 (Some (Entrance 0))) 2 (Some (Exit 0))
 
 abbrev pub draft_of : Draft → Net
 draft_of d = drawn d.layout
@@ -80,18 +80,11 @@ pub record LowestOdd (net : Net) (n : ℕ) : Type 0 where
   pub odd : Kind net n → ⊥
   pub below : (k : ℕ) → 1 ≤ k → k < n → Kind net k
 
-abbrev pub is_kind : NodeKind → Bool
-is_kind Nothing = false
-is_kind (Entrance j) = true
-is_kind (Exit i) = true
-is_kind (Mainline i j) = true
-is_kind (Merge i i' j) = true
-is_kind (Diverge i j j') = true
-
 -- each node has the kind that is told, or one has none
-abbrev pub AllKinds : Layout → Result (List NodeKind) ℕ → Type 0
-AllKinds l (Ok kinds) = (length kinds ≡ 33) × ((k : ℕ) → 1 ≤ k → k ≤ l.nodes → IsKind (drawn l) k (slice_index_or kinds k Nothing))
-AllKinds l (Err n) = LowestOdd (drawn l) n
+abbrev pub AllKinds : Layout → Result (List (Option NodeKind)) NodeFault → Type 0
+AllKinds l (Ok kinds) = (length kinds ≡ 33) × ((k : ℕ) → 1 ≤ k → k ≤ l.nodes → IsTold (drawn l) k (slice_index_or kinds k None))
+AllKinds l (Err Missing) = ⊥
+AllKinds l (Err (Odd n)) = LowestOdd (drawn l) n
 
 -- the links make a network, or they do not
 abbrev pub Finished : Draft → Result Network NodeFault → Type 0

@@ -9,14 +9,13 @@ pub const LINKS: usize = 48;
 
 pub const SPOTS: usize = NODES + 1;
 
-pub const WAYS: usize = SPOTS * SPOTS;
-
-// Links by place, kinds by node, and for a node and an exit the place of the route row's link.
+// Links by place, kinds by node, and by node and exit the place of the route row's link.
+// Only the first `count` links are any: an array with its count, since the engine has no heap.
 #[derive(Clone, Copy)]
 pub struct Layout {
     pub nodes: usize,
     pub count: usize,
     pub links: [Link; LINKS],
-    pub kinds: [NodeKind; SPOTS],
-    pub routes: [Option<u8>; WAYS],
+    pub kinds: [Option<NodeKind>; SPOTS],
+    pub routes: [[Option<u8>; SPOTS]; SPOTS],
 }

@@ -4,31 +4,30 @@ ghost use Rattle.network.specs.Layouts.{empty_layout};
 ghost use Rattle.network.specs.Drafts.{Started, Added, Ranged, counted};
 
 use super::{Draft, LinkFault};
-use crate::kind::NodeKind;
-use crate::layout::{LINKS, Layout, NODES, SPOTS, WAYS};
+use crate::layout::{LINKS, Layout, NODES, SPOTS};
 use crate::link::Link;
 
 // Whether a number is from 1 to `most`.
 fn counts(x: u16, most: u16) -> bool
     ensures { result ≡ counted x most }
 {
-    x >= 1 && x <= most
+    (1..=most).contains(&x)
 }
 
 // Whether the ends of a link are nodes.
 fn ends_fit(link: Link, nodes: u16) -> bool
     ensures { result ≡ (counted link.from nodes && counted link.to nodes) }
 {
-    counts(link.from as u16, nodes) && counts(link.to as u16, nodes)
+    counts(u16::from(link.from), nodes) && counts(u16::from(link.to), nodes)
 }
 
 // Whether the steps, the capacity and the storage of a link are in their ranges.
 fn numbers_fit(link: Link) -> bool
     ensures { result ≡ (counted link.free 63 && (counted link.wave 63 && (counted link.capacity 200 && counted link.storage 2000))) }
 {
-    counts(link.free as u16, 63)
-        && counts(link.wave as u16, 63)
-        && counts(link.capacity as u16, 200)
+    counts(u16::from(link.free), 63)
+        && counts(u16::from(link.wave), 63)
+        && counts(u16::from(link.capacity), 200)
         && counts(link.storage, 2000)
 }
 
@@ -55,8 +54,8 @@ pub(crate) fn empty_layout(nodes: usize) -> Layout
         nodes,
         count: 0,
         links: [blank; LINKS],
-        kinds: [NodeKind::Nothing; SPOTS],
-        routes: [None; WAYS],
+        kinds: [None; SPOTS],
+        routes: [[None; SPOTS]; SPOTS],
     }
 }
 
@@ -65,9 +64,9 @@ impl Draft {
     pub fn new(nodes: u16, links: u16) -> Option<Draft>
         ensures { Started nodes links result }
     {
-        let nodes = nodes as usize;
-        let wanted = links as usize;
-        if nodes < 2 || nodes > NODES || wanted < 1 || wanted > LINKS {
+        let nodes = usize::from(nodes);
+        let wanted = usize::from(links);
+        if !(2..=NODES).contains(&nodes) || !(1..=LINKS).contains(&wanted) {
             return None;
         }
         let layout = empty_layout(nodes);

@@ -1,12 +1,12 @@
 // What a network tells.
-ghost use Rattle.std.specs.Prelude.{◌≡◌, ℕ, ◌<◌, ◌≤◌, true, false};
+ghost use Rattle.std.specs.Prelude.{◌≡◌, ℕ, ◌<◌, ◌≤◌, true, false, Some};
 ghost use Rattle.network.specs.Net.{next as next_of, Entrance as EntranceOf, Exit as ExitOf, Walk};
 ghost use Rattle.network.specs.Layouts.{route_at, kind_at, IsKind, Inside};
 ghost use Rattle.network.specs.Nets.{net_of, Found};
+ghost use Rattle.network.specs.Scans.{IsOrNone};
 
 use super::Network;
 use crate::kind::NodeKind;
-use crate::layout::{LINKS, SPOTS};
 use crate::link::Link;
 
 impl Network {
@@ -24,7 +24,8 @@ impl Network {
         self.layout.count
     }
 
-    // The link at a place, from 0.
+    // The link at a place, from 0. A place is a number with its bound required, here and below: a
+    // type for it would need a bound that names the network, and so ask the same of each call.
     pub fn link(&self, i: usize) -> Link
         requires { i < (net_of self.now).links }
         ensures { result ≡ (net_of self.now).link i }
@@ -60,25 +61,30 @@ impl Network {
     pub fn kind(&self, n: usize) -> NodeKind
         requires least { 1 ≤ n }
         requires most { n ≤ (net_of self.now).nodes }
-        ensures told { result ≡ kind_at self.now.layout n }
+        ensures told { kind_at self.now.layout n ≡ Some result }
         ensures is { IsKind (net_of self.now) n result }
         ensures inside { Inside (net_of self.now).links result }
     {
-        self.layout.kinds[n]
+        self.layout.kinds[n].unwrap()
+    }
+
+    // The kind of a node, where there is such a node.
+    pub(super) fn node(&self, n: usize) -> Option<NodeKind>
+        ensures { IsOrNone (net_of self.now) n result }
+    {
+        if (1..=self.layout.nodes).contains(&n) {
+            Some(self.kind(n))
+        } else {
+            None
+        }
     }
 
     // The route row's link.
     pub(super) fn route(&self, n: usize, x: u8) -> Option<usize>
         ensures { result ≡ (net_of self.now).route n x }
     {
-        let x = x as usize;
-        if n >= SPOTS || x >= SPOTS {
-            return None;
-        }
-        match self.layout.routes[n * SPOTS + x] {
-            None => None,
-            Some(j) => Some(j as usize),
-        }
+        let row = self.layout.routes.get(n)?;
+        row.get(usize::from(x))?.map(usize::from)
     }
 
     // The link that a vehicle for the exit `x` takes after the link `i`.
@@ -86,14 +92,13 @@ impl Network {
         requires { i < (net_of self.now).links }
         ensures { result ≡ next_of (net_of self.now) i x }
     {
-        let n = self.end(i) as usize;
+        let n = usize::from(self.end(i));
         match self.kind(n) {
-            NodeKind::Nothing => None,
-            NodeKind::Entrance(j) => Some(j),
-            NodeKind::Exit(_) => None,
-            NodeKind::Mainline(_, j) => Some(j),
-            NodeKind::Merge(_, _, j) => Some(j),
-            NodeKind::Diverge(_, _, _) => self.route(n, x),
+            NodeKind::Entrance { to }
+            | NodeKind::Mainline { to, .. }
+            | NodeKind::Merge { to, .. } => Some(to),
+            NodeKind::Exit { .. } => None,
+            NodeKind::Diverge { .. } => self.route(n, x),
         }
     }
 
@@ -101,16 +106,9 @@ impl Network {
     pub fn entrance(&self, e: usize) -> Option<usize>
         ensures { Found result (EntranceOf (net_of self.now) e) }
     {
-        if e < 1 || e > self.layout.nodes {
-            return None;
-        }
-        match self.kind(e) {
-            NodeKind::Entrance(j) => Some(j),
-            NodeKind::Nothing => None,
-            NodeKind::Exit(_) => None,
-            NodeKind::Mainline(_, _) => None,
-            NodeKind::Merge(_, _, _) => None,
-            NodeKind::Diverge(_, _, _) => None,
+        match self.node(e)? {
+            NodeKind::Entrance { to } => Some(to),
+            _ => None,
         }
     }
 
@@ -118,16 +116,9 @@ impl Network {
     pub fn exit(&self, x: usize) -> Option<usize>
         ensures { Found result (ExitOf (net_of self.now) x) }
     {
-        if x < 1 || x > self.layout.nodes {
-            return None;
-        }
-        match self.kind(x) {
-            NodeKind::Exit(i) => Some(i),
-            NodeKind::Nothing => None,
-            NodeKind::Entrance(_) => None,
-            NodeKind::Mainline(_, _) => None,
-            NodeKind::Merge(_, _, _) => None,
-            NodeKind::Diverge(_, _, _) => None,
+        match self.node(x)? {
+            NodeKind::Exit { from } => Some(from),
+            _ => None,
         }
     }
 

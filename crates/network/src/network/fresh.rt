@@ -10,12 +10,12 @@ use crate::layout::SPOTS;
 use crate::link::Link;
 
 // The kinds of nodes 1 and 2, joined by the link at place 0.
-fn fresh_kinds() -> [NodeKind; SPOTS]
+fn fresh_kinds() -> [Option<NodeKind>; SPOTS]
     ensures { result ≡ fresh_kinds }
 {
-    let mut kinds = [NodeKind::Nothing; SPOTS];
-    kinds[1] = NodeKind::Entrance(0);
-    kinds[2] = NodeKind::Exit(0);
+    let mut kinds = [None; SPOTS];
+    kinds[1] = Some(NodeKind::Entrance { to: 0 });
+    kinds[2] = Some(NodeKind::Exit { from: 0 });
     kinds
 }
 

@@ -6,67 +6,35 @@ ghost use Rattle.network.specs.Drafts.{RouteFits, Routed, IsMerge, IsDiverge, Is
 use super::Network;
 use crate::draft::RouteFault;
 use crate::kind::NodeKind;
-use crate::layout::SPOTS;
 
 impl Network {
     // Whether a node is a merge.
     pub fn is_merge(&self, node: u16) -> bool
         ensures { Decides result (IsMerge (net_of self.now) node) }
     {
-        let n = node as usize;
-        if n < 1 || n > self.layout.nodes {
-            return false;
-        }
-        match self.kind(n) {
-            NodeKind::Merge(_, _, _) => true,
-            NodeKind::Nothing => false,
-            NodeKind::Entrance(_) => false,
-            NodeKind::Exit(_) => false,
-            NodeKind::Mainline(_, _) => false,
-            NodeKind::Diverge(_, _, _) => false,
-        }
+        matches!(self.node(usize::from(node)), Some(NodeKind::Merge { .. }))
     }
 
     // Whether a node is a diverge.
     fn is_diverge(&self, node: u16) -> bool
         ensures { Decides result (IsDiverge (net_of self.now) node) }
     {
-        let n = node as usize;
-        if n < 1 || n > self.layout.nodes {
-            return false;
-        }
-        match self.kind(n) {
-            NodeKind::Diverge(_, _, _) => true,
-            NodeKind::Nothing => false,
-            NodeKind::Entrance(_) => false,
-            NodeKind::Exit(_) => false,
-            NodeKind::Mainline(_, _) => false,
-            NodeKind::Merge(_, _, _) => false,
-        }
+        matches!(self.node(usize::from(node)), Some(NodeKind::Diverge { .. }))
     }
 
     // Whether the link of a number leaves a node.
     fn leaves(&self, link: u16, node: u16) -> bool
         ensures { Decides result (Leaving (net_of self.now) link node) }
     {
-        let k = link as usize;
-        if k < 1 || k > self.layout.count {
-            return false;
-        }
-        self.layout.links[k - 1].from as u16 == node
+        let k = usize::from(link);
+        (1..=self.layout.count).contains(&k) && u16::from(self.layout.links[k - 1].from) == node
     }
 
     // Whether a route leads from a diverge, to an exit, by a link that leaves the diverge.
     fn route_fits(&self, node: u16, exit: u16, link: u16) -> bool
         ensures { Decides result (RouteFits (net_of self.now) node exit link) }
     {
-        if !self.is_diverge(node) {
-            return false;
-        }
-        match self.exit(exit as usize) {
-            None => false,
-            Some(_) => self.leaves(link, node),
-        }
+        self.is_diverge(node) && self.exit(usize::from(exit)).is_some() && self.leaves(link, node)
     }
 
     // Notes the link of a route.
@@ -74,7 +42,7 @@ impl Network {
         requires { RouteFits (net_of self.old) node exit link }
         ensures { net_of self.new ≡ with_route (net_of self.old) node exit (link - 1) }
     {
-        self.layout.routes[node as usize * SPOTS + exit as usize] = Some((link - 1) as u8);
+        self.layout.routes[usize::from(node)][usize::from(exit)] = Some((link - 1) as u8);
     }
 
     // One route more.
@@ -84,7 +52,7 @@ impl Network {
         if !self.route_fits(node, exit, link) {
             return Err(RouteFault::Misfit);
         }
-        if self.route(node as usize, exit as u8).is_some() {
+        if self.route(usize::from(node), exit as u8).is_some() {
             return Err(RouteFault::Second);
         }
         self.put_route(node, exit, link);

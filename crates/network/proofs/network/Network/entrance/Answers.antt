@@ -1,8 +1,7 @@
-use Rattle.std.proofs.Common.{inl, inr}
-use Rattle.network.proofs.Rights.{right_of}
-use Rattle.network.proofs.Walking.{no_entrance}
+use Rattle.std.proofs.Common.{sym, subst}
+use Rattle.network.specs.Net.{entrance, Entrance}
+use Rattle.network.specs.Nets.{net_of, Found}
 use Rattle.network.proofs.network.Network.entrance.Goals as goal
-use Rattle.network.proofs.network.Network.entrance.Goals.{then-e-lt1-via-then-e-lt1, then-e-lt1-via-else-e-lt1+then-e-self}
 
-pub returns-then-e-lt1 : goal.returns-then-e-lt1
-returns-then-e-lt1 c = λ j w. no_entrance c.args.self.now.layout (right_of c.args.self.now) c.args.e j (elim c.then-e-lt1.branch [ then-e-lt1-via-then-e-lt1 w ↦ inl w.if-e-lt1.true | then-e-lt1-via-else-e-lt1+then-e-self w ↦ inr w.if-e-self.true ]) w
+pub returns-in_err-to : goal.returns-in_err-to
+returns-in_err-to c = subst (λ o. Found o (Entrance (net_of c.args.self.now) c.args.e)) (sym c.from_residual.ensures) (λ j h. c.in_err-to.ensures (entrance j h.0 h.1))

@@ -1,8 +1,7 @@
-use Rattle.std.proofs.Common.{inl, inr}
-use Rattle.network.proofs.Rights.{right_of}
-use Rattle.network.proofs.Walking.{no_exit}
+use Rattle.std.proofs.Common.{sym, subst}
+use Rattle.network.specs.Net.{exit, Exit}
+use Rattle.network.specs.Nets.{net_of, Found}
 use Rattle.network.proofs.network.Network.exit.Goals as goal
-use Rattle.network.proofs.network.Network.exit.Goals.{then-x-lt1-via-then-x-lt1, then-x-lt1-via-else-x-lt1+then-x-self}
 
-pub returns-then-x-lt1 : goal.returns-then-x-lt1
-returns-then-x-lt1 c = λ j w. no_exit c.args.self.now.layout (right_of c.args.self.now) c.args.x j (elim c.then-x-lt1.branch [ then-x-lt1-via-then-x-lt1 w ↦ inl w.if-x-lt1.true | then-x-lt1-via-else-x-lt1+then-x-self w ↦ inr w.if-x-self.true ]) w
+pub returns-in_err-from : goal.returns-in_err-from
+returns-in_err-from c = subst (λ o. Found o (Exit (net_of c.args.self.now) c.args.x)) (sym c.from_residual.ensures) (λ i h. c.in_err-from.ensures (exit i h.0 h.1))
