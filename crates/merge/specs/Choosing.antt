@@ -18,4 +18,4 @@ fresh_meaning Zip = new_zip
 abbrev pub chosen_meaning : Chosen → Meaning
 chosen_meaning (ByFair x) = fair_meaning
 chosen_meaning (ByRamp x) = ramp_meaning
-chosen_meaning (ByZip x) = zip_meaning (turns_of x.turns)
+chosen_meaning (ByZip x) = zip_meaning (turns_of x.turns.at)

@@ -38,7 +38,7 @@ zip_lawful turns = record {
 pub chosen_lawful : (x : Chosen) → Lawful (chosen_meaning x)
 chosen_lawful (ByFair x) = fair_lawful
 chosen_lawful (ByRamp x) = ramp_lawful
-chosen_lawful (ByZip x) = zip_lawful (turns_of x.turns)
+chosen_lawful (ByZip x) = zip_lawful (turns_of x.turns.at)
 
 past_askable : (b : Bool) (q : Question) (past : List Question) → Askable q → AllByRecursion Askable past → AllByRecursion Askable (cond b (q ∷ past) past)
 past_askable true q past h k = (h, k)

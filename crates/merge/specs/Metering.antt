@@ -3,12 +3,13 @@ use Rattle.std.specs.Prelude.{◌≡◌, ℕ, ◌%◌, ◌≤◌, min, cond, ◌
 use Rattle.merge.specs.declared.question.Question.{Question}
 use Rattle.merge.specs.declared.gate.Gate.{Gate}
 use Rattle.merge.specs.declared.gates.Gates.{Gates}
+use Rattle.merge.specs.Bounds.{cut_by}
 use Rattle.merge.specs.Rules.{Meaning}
 use Rattle.merge.specs.States.{inside, at_node}
 
 -- The gates at the nodes.
 abbrev pub gates_of : Gates → ℕ → Option Gate
-gates_of gates = at_node None gates.at
+gates_of gates = at_node None gates.at.at
 
 abbrev pub no_gates : ℕ → Option Gate
 no_gates n = None
@@ -20,7 +21,7 @@ with_gate gates node gate n = cond (inside node && n == node) (Some gate) (gates
 -- The second limit at a clock, where the limit below is `l`.
 abbrev pub cut_limit : Option Gate → ℕ → ℕ → ℕ
 cut_limit None clock l = l
-cut_limit (Some g) clock l = cond (clock % g.period == 0) (min g.rate l) 0
+cut_limit (Some g) clock l = cut_by g.rate g.period clock l
 
 abbrev pub meter_limits : (ℕ → Option Gate) → (ℕ → ℕ → ℕ × ℕ) → ℕ → ℕ → ℕ × ℕ
 meter_limits gates below node clock = ((below node clock).0, cut_limit (gates node) clock (below node clock).1)

@@ -1,5 +1,5 @@
 -- Rules that keep a state at each node.
-use Rattle.std.specs.Prelude.{ℕ, Bool, cond, ◌&&◌, List, [], ◌∷◌, nat_le, nat_lt, slice_index_or}
+use Rattle.std.specs.Prelude.{ℕ, ◌-◌, Bool, cond, ◌&&◌, List, [], ◌∷◌, nat_le, nat_lt, slice_index_or}
 use Rattle.merge.specs.declared.question.Question.{Question}
 use Rattle.merge.specs.Rules.{Meaning}
 
@@ -12,7 +12,7 @@ inside n = nat_lt 0 n && nat_le n nodes
 
 -- What a list with a place for each node has at a node, and `d` where there is no such node.
 abbrev pub at_node : {X : Type 0} → X → List X → ℕ → X
-at_node d xs n = cond (inside n) (slice_index_or xs n d) d
+at_node d xs n = cond (inside n) (slice_index_or xs (n - 1) d) d
 
 -- The state behind some questions.
 abbrev pub behind : {S : Type 0} → (S → Question → S) → S → List Question → S

@@ -29,12 +29,17 @@ seconds [] = 0
 seconds (First ∷ legs) = seconds legs
 seconds (Second ∷ legs) = seconds legs + 1
 
--- The turn behind an order: that of the leg which did not pass the last vehicle, and where none passed
--- the turn that it was.
 abbrev pub other : Leg → Leg
 other First = Second
 other Second = First
 
+-- Of two things, the first leg's and the second's, this leg's and the other's.
+abbrev pub in_order : Leg → ℕ × ℕ → ℕ × ℕ
+in_order First p = p
+in_order Second p = (p.1, p.0)
+
+-- The turn behind an order: that of the leg which did not pass the last vehicle, and where none passed
+-- the turn that it was.
 abbrev pub turn_behind : Leg → List Leg → Leg
 turn_behind turn [] = turn
 turn_behind turn (leg ∷ legs) = turn_behind (other leg) legs

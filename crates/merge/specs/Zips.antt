@@ -1,6 +1,7 @@
 -- A zip by numbers is the zip vehicle by vehicle.
 use Rattle.std.specs.Prelude.{◌≡◌, ℕ, zero, suc, ◌+◌, ◌-◌, ◌<◌, ◌≤◌, min, Bool, true, false, cond, not, List, [], ◌∷◌, length, refl}
 use Rattle.std.proofs.Common.{sym, ◌∙◌, ap, arith}
+use Rattle.std.proofs.lemmas.Bool.{cond-false}
 use Rattle.std.proofs.lemmas.Bool.Decides.{nat_tests}
 use Rattle.merge.specs.declared.question.Question.{Question}
 use Rattle.merge.specs.declared.alternate.Leg.{Leg}
@@ -46,18 +47,12 @@ turned false x y z e = e
 turns : {A : Type 0} (a b : Bool) (x y z : A) → a ≡ not b → z ≡ cond b x y → z ≡ cond a y x
 turns a b x y z e f = turned b x y z f ∙ ap (λ c. cond c y x) (sym e)
 
-stays : {A : Type 0} (b : Bool) (x y z : A) → b ≡ false → z ≡ y → z ≡ cond b x y
-stays b x y z e f = f ∙ ap (λ c. cond c x y) (sym e)
-
-cond_off : {A : Type 0} (b : Bool) (x y z : A) → b ≡ false → z ≡ cond b x y → z ≡ y
-cond_off b x y z e f = f ∙ ap (λ c. cond c x y) e
-
 none_counted : (turn : Leg) (n s1 s2 : ℕ) → n ≡ 0 → Counts turn n s1 s2 []
 unfolding Counts
 none_counted First n s1 s2 e =
-    let p = part_none n s1 s2 e in (omega arith, omega arith, stays _ _ _ _ (last_none n s1 s2 e) refl)
+    let p = part_none n s1 s2 e in (omega arith, omega arith, sym (cond-false _ Second First (last_none n s1 s2 e)))
 none_counted Second n s1 s2 e =
-    let p = part_none n s2 s1 e in (omega arith, omega arith, stays _ _ _ _ (last_none n s2 s1 e) refl)
+    let p = part_none n s2 s1 e in (omega arith, omega arith, sym (cond-false _ First Second (last_none n s2 s1 e)))
 
 counts : (r n : ℕ) (turn : Leg) (s1 s2 : ℕ) → n ≡ min (s1 + s2) r → Counts turn n s1 s2 (order r turn s1 s2)
 unfolding Counts
@@ -74,7 +69,7 @@ counts (suc r) (suc n) First zero (suc s2) e =
     let k = counts r n First zero s2 (omega arith) in
     let p = part_lacks (suc n) (suc s2) in
     let o = part_lacks n s2 in
-    (omega (arith, k.0), omega (arith, k.1), stays _ _ _ _ (last_lacks (suc n) (suc s2)) (cond_off _ _ _ _ (last_lacks n s2) k.2))
+    (omega (arith, k.0), omega (arith, k.1), k.2 ∙ cond-false _ _ _ (last_lacks n s2) ∙ sym (cond-false _ Second First (last_lacks (suc n) (suc s2))))
 counts (suc r) n First zero zero e = none_counted First n zero zero (omega arith)
 counts (suc r) zero Second s1 (suc s2) e = absurd (omega arith)
 counts (suc r) (suc n) Second s1 (suc s2) e =
@@ -88,7 +83,7 @@ counts (suc r) (suc n) Second (suc s1) zero e =
     let k = counts r n Second s1 zero (omega arith) in
     let p = part_lacks (suc n) (suc s1) in
     let o = part_lacks n s1 in
-    (omega (arith, k.0), omega (arith, k.1), stays _ _ _ _ (last_lacks (suc n) (suc s1)) (cond_off _ _ _ _ (last_lacks n s1) k.2))
+    (omega (arith, k.0), omega (arith, k.1), k.2 ∙ cond-false _ _ _ (last_lacks n s1) ∙ sym (cond-false _ First Second (last_lacks (suc n) (suc s1))))
 counts (suc r) n Second zero zero e = none_counted Second n zero zero (omega arith)
 
 -- an order alternates, and is as long as vehicles or places allow

@@ -10,7 +10,7 @@ use crate::ramp::Ramp;
 use crate::rule::MergeRule;
 
 /// A rule by its name.
-#[derive(Clone, Copy)]
+#[derive(Clone, Copy, PartialEq, Eq, Debug)]
 pub enum Choice {
     Fair,
     Ramp,
@@ -18,6 +18,7 @@ pub enum Choice {
 }
 
 /// One of the three rules.
+// An enum, and no boxed rule: the set is closed, and the engine has no heap.
 #[derive(Drop)]
 pub enum Chosen {
     ByFair(Fair),

@@ -7,7 +7,7 @@ use crate::question::Question;
 use crate::rule::{MergeRule, NO_LIMIT};
 
 /// The rule. It keeps nothing.
-#[derive(Clone, Copy)]
+#[derive(Clone, Copy, PartialEq, Eq, Debug)]
 pub struct Fair;
 
 /// The first leg's share of `r` places, the fraction dropped; none if both capacities are 0.
@@ -15,11 +15,11 @@ fn share(r: u16, q1: u16, q2: u16) -> u16
     ensures value { result ≡ share_of r q1 q2 }
     ensures bound { result ≤ r }
 {
-    let both = q1 as u32 + q2 as u32;
-    if both == 0 {
+    let (places, q1, q2) = (u32::from(r), u32::from(q1), u32::from(q2));
+    if q1 + q2 == 0 {
         return 0;
     }
-    (r as u32 * q1 as u32 / both) as u16
+    (places * q1 / (q1 + q2)) as u16
 }
 
 /// The split where the first leg's share is `share1`, and the second's is the rest.
@@ -29,7 +29,7 @@ fn split_by(share1: u16, q: Question) -> (u16, u16)
     ensures law { ByShares share1 q result }
 {
     let share2 = q.r - share1;
-    if q.s1 as u32 + q.s2 as u32 <= q.r as u32 {
+    if u32::from(q.s1) + u32::from(q.s2) <= u32::from(q.r) {
         (q.s1, q.s2)
     } else if q.s1 <= share1 {
         (q.s1, q.r - q.s1)

@@ -19,7 +19,7 @@ pub use fair::Fair;
 pub use gate::Gate;
 pub use gates::Gates;
 pub use meter::Meter;
-pub use nodes::NODES;
+pub use nodes::{NODES, NoNode};
 pub use question::Question;
 pub use ramp::Ramp;
 pub use rule::{MergeRule, ask_one};

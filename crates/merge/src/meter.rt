@@ -1,29 +1,12 @@
 //! The ramp meter, a layer over any rule: it holds the second leg back at the nodes that have a gate.
 ghost use Rattle.std.specs.Prelude.{◌≡◌, []};
 ghost use Rattle.merge.specs.Rules.{after};
-ghost use Rattle.merge.specs.Metering.{gates_of, cut_limit, cut_to, passed_on, metered, Held};
+ghost use Rattle.merge.specs.Metering.{gates_of, cut_to, passed_on, metered, Held};
 ghost use Rattle.merge.specs.Meters.{metered_lawful};
 
-use crate::gate::Gate;
 use crate::gates::Gates;
 use crate::question::Question;
 use crate::rule::{MergeRule, ask_one};
-
-/// The second limit at a clock, where the limit below is `l`.
-fn cut_limit(gate: Option<Gate>, clock: u32, l: u16) -> u16
-    ensures { result ≡ cut_limit gate clock l }
-{
-    match gate {
-        None => l,
-        Some(g) => {
-            if clock % g.period() as u32 == 0 {
-                g.rate().min(l)
-            } else {
-                0
-            }
-        }
-    }
-}
 
 /// The question with the second leg's vehicles cut to `l`.
 fn cut_to(l: u16, q: Question) -> Question
@@ -69,7 +52,8 @@ impl<R: MergeRule> MergeRule for Meter<R> {
 
     fn limits(&self, node: u16, clock: u32) -> (u16, u16) {
         let (l1, l2) = self.below.limits(node, clock);
-        (l1, cut_limit(self.gates.gate(node), clock, l2))
+        let gate = self.gates.gate(node);
+        (l1, gate.map_or(l2, |g| g.limit(clock, l2)))
     }
 
     fn split(&mut self, node: u16, q: Question) -> (u16, u16) {

@@ -1,7 +1,7 @@
 //! What is asked of a rule at a merge.
 
 /// At a clock: how many vehicles each leg may send, how many places there are, and the legs' capacities.
-#[derive(Clone, Copy)]
+#[derive(Clone, Copy, PartialEq, Eq, Debug)]
 pub struct Question {
     pub clock: u32,
     pub s1: u16,

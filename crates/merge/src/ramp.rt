@@ -7,7 +7,7 @@ use crate::question::Question;
 use crate::rule::{MergeRule, NO_LIMIT};
 
 /// The rule. It keeps nothing.
-#[derive(Clone, Copy)]
+#[derive(Clone, Copy, PartialEq, Eq, Debug)]
 pub struct Ramp;
 
 /// The split that passes as many of the second leg as can.

@@ -14,7 +14,8 @@ pub const NO_LIMIT: (u16, u16) = (u16::MAX, u16::MAX);
 pub trait MergeRule {
     ghost meaning: { Self → Meaning };
 
-    /// How many the first and the second leg may pass at most.
+    /// How many the first and the second leg may pass at most. It has no body of its own for the rules
+    /// without limits: that they have none follows from each one's meaning.
     fn limits(&self, node: u16, clock: u32) -> (u16, u16)
         ensures { result ≡ (meaning self.now).limits node clock };
 
