@@ -13,44 +13,41 @@ use Rattle.newell.proofs.Single.{same_history, v_next, came_next}
 use Rattle.newell.proofs.Extend.{answers_same}
 use Rattle.newell.proofs.Timeline.{stepped}
 
-clash : {P : Type 0} → ◌≡◌ {A = ℕ} 0 1 → P
-clash e = absurd (omega arith)
-
 -- an event with a known call
 as_book : (e x n : ℕ) (event : Event) → to_book e x n ≡ call event → (r : Reply (Unit {0})) × (event ≡ book e x n r)
 as_book e x n (book e' x' n' r) q = (r, cc)
-as_book e x n (step m rows r m' rows') q = clash cc
-as_book e x n (ask_link i r) q = clash cc
-as_book e x n (ask_entrance i r) q = clash cc
-as_book e x n (ask_exit i r) q = clash cc
+as_book e x n (step m rows r m' rows') q = cc
+as_book e x n (ask_link i r) q = cc
+as_book e x n (ask_entrance i r) q = cc
+as_book e x n (ask_exit i r) q = cc
 
 as_step : (m : Meaning) (rows : List StepRow) (event : Event) → to_step m rows ≡ call event
     → (r : Reply (Unit {0})) × (m' : Meaning) × (rows' : List StepRow) × (event ≡ step m rows r m' rows')
-as_step m rows (book e' x' n' r) q = clash cc
+as_step m rows (book e' x' n' r) q = cc
 as_step m rows (step m₁ rows₁ r m' rows') q = (r, m', rows', cc)
-as_step m rows (ask_link i r) q = clash cc
-as_step m rows (ask_entrance i r) q = clash cc
-as_step m rows (ask_exit i r) q = clash cc
+as_step m rows (ask_link i r) q = cc
+as_step m rows (ask_entrance i r) q = cc
+as_step m rows (ask_exit i r) q = cc
 
 as_link : (n : ℕ) (event : Event) → to_ask_link n ≡ call event → (r : Reply _) × (event ≡ ask_link n r)
-as_link n (book e' x' n' r) q = clash cc
-as_link n (step m rows r m' rows') q = clash cc
+as_link n (book e' x' n' r) q = cc
+as_link n (step m rows r m' rows') q = cc
 as_link n (ask_link i r) q = (r, cc)
-as_link n (ask_entrance i r) q = clash cc
-as_link n (ask_exit i r) q = clash cc
+as_link n (ask_entrance i r) q = cc
+as_link n (ask_exit i r) q = cc
 
 as_entrance : (n : ℕ) (event : Event) → to_ask_entrance n ≡ call event → (r : Reply ℕ) × (event ≡ ask_entrance n r)
-as_entrance n (book e' x' n' r) q = clash cc
-as_entrance n (step m rows r m' rows') q = clash cc
-as_entrance n (ask_link i r) q = clash cc
+as_entrance n (book e' x' n' r) q = cc
+as_entrance n (step m rows r m' rows') q = cc
+as_entrance n (ask_link i r) q = cc
 as_entrance n (ask_entrance i r) q = (r, cc)
-as_entrance n (ask_exit i r) q = clash cc
+as_entrance n (ask_exit i r) q = cc
 
 as_exit : (n : ℕ) (event : Event) → to_ask_exit n ≡ call event → (r : Reply ℕ) × (event ≡ ask_exit n r)
-as_exit n (book e' x' n' r) q = clash cc
-as_exit n (step m rows r m' rows') q = clash cc
-as_exit n (ask_link i r) q = clash cc
-as_exit n (ask_entrance i r) q = clash cc
+as_exit n (book e' x' n' r) q = cc
+as_exit n (step m rows r m' rows') q = cc
+as_exit n (ask_link i r) q = cc
+as_exit n (ask_entrance i r) q = cc
 as_exit n (ask_exit i r) q = (r, cc)
 
 -- checks give one answer
@@ -84,12 +81,12 @@ meaning_one net c t m a b p q = λ z. record {
     not n qs x no-merge = p.other n no-merge qs x ∙ sym (q.other n no-merge qs x)
 
     go : (n : ℕ) (qs : List Question) (x : Question) (is js : List ℕ) → entering net n ≡ is → leaving net n ≡ js → a.splits n qs x ≡ b.splits n qs x
-    go n qs x [] js e l = not n qs x (λ i i' j y w. clash cc)
-    go n qs x (i ∷ []) js e l = not n qs x (λ i i' j y w. clash cc)
-    go n qs x (i ∷ i' ∷ k ∷ is) js e l = not n qs x (λ i i' j y w. clash cc)
-    go n qs x (i ∷ i' ∷ []) [] e l = not n qs x (λ i i' j y w. clash cc)
+    go n qs x [] js e l = not n qs x (λ i i' j y w. cc)
+    go n qs x (i ∷ []) js e l = not n qs x (λ i i' j y w. cc)
+    go n qs x (i ∷ i' ∷ k ∷ is) js e l = not n qs x (λ i i' j y w. cc)
+    go n qs x (i ∷ i' ∷ []) [] e l = not n qs x (λ i i' j y w. cc)
     go n qs x (i ∷ i' ∷ []) (j ∷ []) e l = p.merge n i i' j e l qs x ∙ sym (q.merge n i i' j e l qs x)
-    go n qs x (i ∷ i' ∷ []) (j ∷ j' ∷ js) e l = not n qs x (λ i i' j y w. clash cc)
+    go n qs x (i ∷ i' ∷ []) (j ∷ j' ∷ js) e l = not n qs x (λ i i' j y w. cc)
 
 agree_next : (net : Net) (sound : Sound net) (c d : Curves) (b : ℕ → List ℕ) (m : Meaning) (t : ℕ) → Law net c b m t → Law net d b m t → Agree net c d t → Agree net c d (t + 1)
 agree_next net sound c d b m t law law' g s i l k = go (cases_eq s (t + 1))
@@ -121,9 +118,9 @@ same_event net sound h c d (step m rows r m' rows') event' q g p p' =
         let x = p.1 k refl in let y = p'.1 k₁ refl in
         cc
     step_one (told u) (refused k) m₁ rows₁ p p' =
-        let e : ◌≡◌ {A = Reply (Unit {0})} (told u) (refused k) = one (told u) (refused k) (λ _. one (told u) (refused k) (λ _ _ z. absurd z)) p.0 p'.0 in clash cc
+        let e : ◌≡◌ {A = Reply (Unit {0})} (told u) (refused k) = one (told u) (refused k) (λ _. one (told u) (refused k) (λ _ _ z. absurd z)) p.0 p'.0 in cc
     step_one (refused k) (told u) m₁ rows₁ p p' =
-        let e : ◌≡◌ {A = Reply (Unit {0})} (refused k) (told u) = one (refused k) (told u) (λ _. one (refused k) (told u) (λ _ z _. absurd z)) p.0 p'.0 in clash cc
+        let e : ◌≡◌ {A = Reply (Unit {0})} (refused k) (told u) = one (refused k) (told u) (λ _. one (refused k) (told u) (λ _ z _. absurd z)) p.0 p'.0 in cc
 same_event net sound h c d (ask_link n r) event' q g p p' =
     let b = as_link n event' q in
     let a : Answers net c h (ask_link n b.0) = answers_same net sound d c h (ask_link n b.0) (λ s i l k. (sym (g s i l k).0, sym (g s i l k).1)) (subst (Answers net d h) b.1 p') in
@@ -142,8 +139,8 @@ tails x y xs ys e = (cc, cc)
 
 pub one_plain_run : OnePlainRun
 one_plain_run net sound [] [] c d q f g = (refl, same_history net sound [] c d f g)
-one_plain_run net sound [] (event' ∷ h') c d q f g = clash cc
-one_plain_run net sound (event ∷ h) [] c d q f g = clash cc
+one_plain_run net sound [] (event' ∷ h') c d q f g = cc
+one_plain_run net sound (event ∷ h) [] c d q f g = cc
 one_plain_run net sound (event ∷ h) (event' ∷ h') c d q f g =
     let t = tails (call event) (call event') (map call h) (map call h') q in
     let r = one_plain_run net sound h h' c d t.1 f.0 g.0 in

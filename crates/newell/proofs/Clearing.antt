@@ -3,6 +3,7 @@ use Rattle.newell.specs.declared.records.Vehicle.{Vehicle}
 use Rattle.std.proofs.Common.{◌≡◌, ℕ, zero, suc, ◌+◌, ◌-◌, ◌*◌, ◌<◌, ◌≤◌, ◌⊎◌, List, [], ◌∷◌, map, length, take, drop, sum_by, sym, refl, ap, ◌∙◌, subst, inl, inr, add-zero, add-suc, add-one, arith, length-append, length-drop, length-take}
 use mathlib.Core.Path.{fun_ext}
 use Rattle.std.specs.List.{flat_map, AllByRecursion}
+use Rattle.std.proofs.lemmas.List.{nil_from_length}
 use Rattle.std.proofs.lemmas.List.Sums.{sum_by-cons}
 use Rattle.std.proofs.ByRecursion.{sum_by_le, All-drop, All-weaker}
 use Rattle.std.proofs.lemmas.Bool.{cases_lt}
@@ -42,10 +43,6 @@ pub sum_ones : {X : Type 0} (xs : List X) → sum_by {X = X} (λ x. 1) xs ≡ le
 sum_ones [] = refl
 sum_ones (x ∷ xs) = omega (arith, sum_by-cons (λ x. 1) x xs, sum_ones xs)
 
-length_zero : {X : Type 0} (xs : List X) → length xs ≡ 0 → xs ≡ []
-length_zero [] e = refl
-length_zero (x ∷ xs) e = absurd (omega arith)
-
 joined_nil : {X : Type 0} (g : ℕ → List X) (is : List ℕ) → ((i : ℕ) → In i is → g i ≡ []) → flat_map g is ≡ []
 joined_nil g [] h = refl
 joined_nil g (i ∷ is) h = rw (h i (inl refl)) (joined_nil g is (λ k q. h k (inr q)))
@@ -77,7 +74,7 @@ module _ (net : Net) (sound : Sound net) (c : Curves) (T : ℕ) (booked : ℕ �
           let w : List ℕ = take (R net c i t) (waiting net c (booked t (net.link i).from) i t) in
           let b : length w ≡ 0 = omega (arith, sum_ones w, total_at net.links (λ j. sum_by {X = ℕ} (λ v. 1) (take (R net c j t) (waiting net c (booked t (net.link j).from) j t))) i k, p) in
           let d : flat_map (λ i'. map {B = ℕ} (λ v. v.exit) (towards net i' i (leavers net c i' t))) (entering net (net.link i).from) ≡ [] =
-          joined_nil _ _ (λ i' q. let z : leavers net c i' t ≡ [] = length_zero _ (none_leaves i' (entered net _ i' q).0) in
+          joined_nil _ _ (λ i' q. let z : leavers net c i' t ≡ [] = nil_from_length _ (none_leaves i' (entered net _ i' q).0) in
           ap (λ vs. map (λ v. v.exit) (towards net i' i vs)) z) in
           omega (arith, a, length-append w (flat_map (λ i'. map {B = ℕ} (λ v. v.exit) (towards net i' i (leavers net c i' t))) (entering net (net.link i).from)), ap length d, b)
 
@@ -141,11 +138,11 @@ module _ (net : Net) (sound : Sound net) (c : Curves) (T : ℕ) (booked : ℕ �
         gone q =
             let x = total_none net.links (λ j. sum_by (λ x. suc (togo net h j x)) (waiting net c (booked from (net.link j).from) j t)) (λ j n.
             let z : waiting net c (booked from (net.link j).from) j t ≡ [] =
-            length_zero _ (subst (λ (b : List ℕ). length (waiting net c b j t) ≡ 0) (same (t + W - 1) (net.link j).from (omega (arith, w_least)) (omega (arith, opens.least, w_least)))
+            nil_from_length _ (subst (λ (b : List ℕ). length (waiting net c b j t) ≡ 0) (same (t + W - 1) (net.link j).from (omega (arith, w_least)) (omega (arith, opens.least, w_least)))
             (no_wait net sound c T booked m lawful W Z t longest w_least later l (u_still q) (v_still q) j n)) in
             ap (sum_by (λ x. suc (togo net h j x))) z) in
             let y = total_none net.links (λ i. sum_by (λ v. togo net h i v.exit) (on net c i t)) (λ i n.
-            let z : on net c i t ≡ [] = length_zero _ (simp length-drop
+            let z : on net c i t ≡ [] = nil_from_length _ (simp length-drop
             (omega (arith, no_vehicle net sound c T booked m lawful W Z t longest w_least later l (u_still q) (v_still q) i n))) in
             ap (sum_by (λ v. togo net h i v.exit)) z) in
             omega arith
@@ -217,7 +214,7 @@ module _ (net : Net) (sound : Sound net) (c : Curves) (T : ℕ) (booked : ℕ �
       none_waits : (j : ℕ) → j < net.links → waiting net c (booked T (net.link j).from) j T ≡ []
       none_waits j k = let q : List ℕ = waiting net c (booked from (net.link j).from) j T in
           ap (λ (b : List ℕ). waiting net c b j T) (same T (net.link j).from (omega arith) (omega arith))
-          ∙ length_zero q (omega (
+          ∙ nil_from_length q (omega (
             arith,
             last,
             length_le_sum (λ x. suc (togo net h j x)) q (all_suc q),
@@ -229,7 +226,7 @@ module _ (net : Net) (sound : Sound net) (c : Curves) (T : ℕ) (booked : ℕ �
           all_suc (x ∷ xs) = (omega arith, all_suc xs)
 
       none_drives : (i : ℕ) → i < net.links → on net c i T ≡ []
-      none_drives i k = length_zero (on net c i T) (omega (
+      none_drives i k = nil_from_length (on net c i T) (omega (
         arith,
         last,
         length_le_sum (λ (v : Vehicle). togo net h i v.exit) (on net c i T) (All-weaker _ _ (λ v z. z.0) _ (drive_weights i T k (omega arith))),

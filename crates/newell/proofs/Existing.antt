@@ -19,9 +19,6 @@ use Rattle.newell.proofs.Diverge.{fit_down}
 use Rattle.newell.proofs.Moments.{served_bound}
 use Rattle.newell.proofs.Numbering.{some_below, walk?}
 
-clash : {P : Type 0} → ◌≡◌ {A = ℕ} 0 1 → P
-clash e = absurd (omega arith)
-
 -- a run just opened
 unopened : RunNow
 unopened = record { clock = 0; link = λ i. record { ons = λ k. 0; offs = λ k. 0; cars = []; travel = None }; queue = λ j. [] }
@@ -193,18 +190,18 @@ entrance? net e = go (entering net e) (leaving net e) refl refl
   where
     go : (is js : List ℕ) → entering net e ≡ is → leaving net e ≡ js → ((j : ℕ) × Entrance net e j) ⊎ ((j : ℕ) → Entrance net e j → ⊥)
     go [] (j ∷ []) a b = inl (j, (a, b))
-    go [] [] a b = inr (λ k w. let z : [] ≡ k ∷ [] = sym b ∙ w.1 in clash cc)
-    go [] (j ∷ j' ∷ js) a b = inr (λ k w. let z : j ∷ j' ∷ js ≡ k ∷ [] = sym b ∙ w.1 in clash cc)
-    go (i ∷ is) js a b = inr (λ k w. let z : i ∷ is ≡ [] = sym a ∙ w.0 in clash cc)
+    go [] [] a b = inr (λ k w. let z : [] ≡ k ∷ [] = sym b ∙ w.1 in cc)
+    go [] (j ∷ j' ∷ js) a b = inr (λ k w. let z : j ∷ j' ∷ js ≡ k ∷ [] = sym b ∙ w.1 in cc)
+    go (i ∷ is) js a b = inr (λ k w. let z : i ∷ is ≡ [] = sym a ∙ w.0 in cc)
 
 exit? : (net : Net) (x : ℕ) → ((i : ℕ) × Exit net x i) ⊎ ((i : ℕ) → Exit net x i → ⊥)
 exit? net x = go (entering net x) (leaving net x) refl refl
   where
     go : (is js : List ℕ) → entering net x ≡ is → leaving net x ≡ js → ((i : ℕ) × Exit net x i) ⊎ ((i : ℕ) → Exit net x i → ⊥)
     go (i ∷ []) [] a b = inl (i, (a, b))
-    go (i ∷ []) (j ∷ js) a b = inr (λ k w. let z : j ∷ js ≡ [] = sym b ∙ w.1 in clash cc)
-    go [] js a b = inr (λ k w. let z : [] ≡ k ∷ [] = sym a ∙ w.0 in clash cc)
-    go (i ∷ i' ∷ is) js a b = inr (λ k w. let z : i ∷ i' ∷ is ≡ k ∷ [] = sym a ∙ w.0 in clash cc)
+    go (i ∷ []) (j ∷ js) a b = inr (λ k w. let z : j ∷ js ≡ [] = sym b ∙ w.1 in cc)
+    go [] js a b = inr (λ k w. let z : [] ≡ k ∷ [] = sym a ∙ w.0 in cc)
+    go (i ∷ i' ∷ is) js a b = inr (λ k w. let z : i ∷ i' ∷ is ≡ k ∷ [] = sym a ∙ w.0 in cc)
 
 -- one call more
 More : Net → History → Call → Type 0

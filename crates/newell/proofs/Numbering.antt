@@ -11,9 +11,6 @@ use Rattle.newell.specs.Numbers.{LongestWalkThere, LongestStepsThere, PeriodOpen
 use Rattle.newell.proofs.Weights.{next_leaves}
 use Rattle.newell.proofs.Moments.{served_bound}
 
-clash : {P : Type 0} → ◌≡◌ {A = ℕ} 0 1 → P
-clash e = absurd (omega arith)
-
 -- what can be decided at each number can be sought below a bound
 pub some_below : (P : ℕ → Type 0) → ((i : ℕ) → P i ⊎ (P i → ⊥)) → (n : ℕ) → ((i : ℕ) × (i < n) × P i) ⊎ ((i : ℕ) → i < n → P i → ⊥)
 some_below P dec zero = inr (λ i l p. omega arith)
@@ -40,7 +37,7 @@ module _ (net : Net) (x : ℕ) where
 
   is_nil : (xs : List ℕ) → (xs ≡ []) ⊎ (xs ≡ [] → ⊥)
   is_nil [] = inl refl
-  is_nil (y ∷ ys) = inr (λ e. clash cc)
+  is_nil (y ∷ ys) = inr (λ e. cc)
 
   pub walk? : (n i : ℕ) → Walk net x i n ⊎ (Walk net x i n → ⊥)
   unfolding Turn
@@ -73,7 +70,7 @@ module _ (net : Net) (x : ℕ) where
       no f (inr t) = f t.0 t.3 (subst (Walk net x t.0) (omega (arith, t.2)) t.4)
 
       go : (o : Option ℕ) → next net i x ≡ o → ((j : ℕ) → Walk net x j (suc n) ⊎ (Walk net x j (suc n) → ⊥)) → Walk net x i (suc (suc n)) ⊎ (Walk net x i (suc (suc n)) → ⊥)
-      go None e rec = inr (λ w. no (λ j q v. clash cc) (turn w))
+      go None e rec = inr (λ w. no (λ j q v. cc) (turn w))
       go (Some j) e rec = step (rec j)
         where
           step : Walk net x j (suc n) ⊎ (Walk net x j (suc n) → ⊥) → Walk net x i (suc (suc n)) ⊎ (Walk net x i (suc (suc n)) → ⊥)
@@ -84,9 +81,9 @@ served? : (net : Net) (n e x : ℕ) → Served net e x n ⊎ (Served net e x n �
 served? net n e x = go (entering net e) (leaving net e) refl refl
   where
     go : (is js : List ℕ) → entering net e ≡ is → leaving net e ≡ js → Served net e x n ⊎ (Served net e x n → ⊥)
-    go (i ∷ is) js a b = inr (λ s. let z : i ∷ is ≡ [] = sym a ∙ s.1.0 in clash cc)
-    go [] [] a b = inr (λ s. let z : [] ≡ s.0 ∷ [] = sym b ∙ s.1.1 in clash cc)
-    go [] (j ∷ k ∷ js) a b = inr (λ s. let z : j ∷ k ∷ js ≡ s.0 ∷ [] = sym b ∙ s.1.1 in clash cc)
+    go (i ∷ is) js a b = inr (λ s. let z : i ∷ is ≡ [] = sym a ∙ s.1.0 in cc)
+    go [] [] a b = inr (λ s. let z : [] ≡ s.0 ∷ [] = sym b ∙ s.1.1 in cc)
+    go [] (j ∷ k ∷ js) a b = inr (λ s. let z : j ∷ k ∷ js ≡ s.0 ∷ [] = sym b ∙ s.1.1 in cc)
     go [] (j ∷ []) a b = walks (walk? net x n j)
       where
         walks : Walk net x j n ⊎ (Walk net x j n → ⊥) → Served net e x n ⊎ (Served net e x n → ⊥)

@@ -1,6 +1,6 @@
 -- Vehicles pass the nodes in order.
 use Rattle.newell.specs.declared.records.Vehicle.{Vehicle}
-use Rattle.std.proofs.Common.{◌≡◌, ℕ, zero, suc, ◌+◌, ◌-◌, ◌<◌, ◌≤◌, true, cond, ◌⊎◌, List, [], ◌∷◌, ◌++◌, map, length, get_or, take, drop, sym, refl, ap, ◌∙◌, subst, ap₂, inl, inr, arith, length-drop, length-take, take-add, eq-eqb}
+use Rattle.std.proofs.Common.{◌≡◌, ℕ, ◌+◌, ◌-◌, ◌<◌, ◌≤◌, true, cond, ◌⊎◌, List, [], ◌∷◌, ◌++◌, map, length, get_or, take, drop, sym, refl, ap, ◌∙◌, subst, ap₂, inl, inr, arith, length-drop, length-take, take-add, eq-eqb}
 use Rattle.std.specs.List.{flat_map, AllByRecursion}
 use Rattle.std.proofs.lemmas.List.{append-nil, take_all, take-append-le, drop_at, get_or-take, get_or-drop, get_or_append_left}
 use Rattle.std.proofs.lemmas.Bool.{cases_lt}
@@ -10,12 +10,8 @@ use Rattle.newell.specs.Plain.{Curves, U, V, R, on, leavers, newcomers, exits, t
 use Rattle.newell.specs.History.{History, clock, booked, handed, Follows}
 use Rattle.newell.specs.Promise.{InOrder}
 use Rattle.newell.proofs.Bounds.{none_booked, came_on, out, v_le_u, u_mono, earlier}
-use Rattle.newell.proofs.Weights.{drop_nil}
+use Rattle.std.proofs.Math.Seq.{take-nil, drop-nil}
 use Rattle.newell.proofs.Timeline.{Timeline, timeline}
-
-take_nil : {X : Type 0} (n : ℕ) → take {A = X} n [] ≡ []
-take_nil zero = refl
-take_nil (suc n) = refl
 
 take_min : {X : Type 0} (r : ℕ) (xs : List X) → take (length (take r xs)) xs ≡ take r xs
 take_min r xs = go (cases_lt r (length xs))
@@ -104,7 +100,7 @@ module _ (net : Net) (sound : Sound net) (h : History) (c : Curves) (f : Follows
       let g : entering net (net.link j).from ≡ i ∷ is = ap (entering net) k.1 ∙ e in
       let b : booked h t (net.link j).from ≡ [] = none_booked net _ i is _ g (lawful.served t (net.link j).from (omega arith)) in
       let w : take (R net c j t) (waiting net c (booked h t (net.link j).from) j t) ≡ [] =
-      ap (λ (b : List ℕ). take (R net c j t) (drop (U net c j t) b)) b ∙ ap (take (R net c j t)) (drop_nil (U net c j t)) ∙ take_nil (R net c j t) in
+      ap (λ (b : List ℕ). take (R net c j t) (drop (U net c j t) b)) b ∙ ap (take (R net c j t)) (drop-nil (U net c j t)) ∙ take-nil (R net c j t) in
       arrived j t k.0 l ∙ ap₂ (λ (xs : List ℕ) (is : List ℕ). xs ++ flat_map (λ i. exits (towards net i j (leavers net c i t))) is) w g
 
   one_way : (n i j t : ℕ) → (net.link i).to ≡ n → leaving net n ≡ j ∷ [] → exits (towards net i j (leavers net c i t)) ≡ exits (leavers net c i t)

@@ -5,7 +5,8 @@ use Rattle.std.specs.List.{flat_map, AllByRecursion}
 use Rattle.std.proofs.lemmas.List.Sums.{sum_by-append, sum_by-take-drop}
 use Rattle.std.proofs.ByRecursion.{All-map, All-append, All-take, All-drop, All-weaker}
 use Rattle.std.proofs.lemmas.List.{drop-drop, drop-append-le, drop_all}
-use Rattle.std.proofs.lemmas.Bool.{cases_lt, both_ways}
+use Rattle.std.proofs.Math.Seq.{drop-nil}
+use Rattle.std.proofs.lemmas.Bool.{cond-true, cond-false, cases_lt, both_ways}
 use Rattle.network.specs.Net.{Net, Sound, Walk, there, along, entering, leaving, onward, next, is, Served}
 use Rattle.merge.specs.Rules.{Meaning}
 use Rattle.newell.specs.Plain.{Curves, U, V, R, on, leavers, towards, waiting, arrivals}
@@ -30,12 +31,6 @@ member j a b (inr e) = inr (inl e)
 cond_zero : (b : Bool) → cond {A = ℕ} b 0 0 ≡ 0
 cond_zero true = refl
 cond_zero false = refl
-
-cond_yes : (b : Bool) (n : ℕ) → b ≡ true → cond b n 0 ≡ n
-cond_yes b n e = rw e
-
-cond_no : (b : Bool) (n : ℕ) → b ≡ false → cond b n 0 ≡ 0
-cond_no b n e = rw e
 
 cond_sum : {X : Type 0} (b : Bool) (f : X → ℕ) (xs : List X) → cond b (sum_by f xs) 0 ≡ sum_by (λ x. cond b (f x) 0) xs
 cond_sum true f xs = refl
@@ -63,8 +58,8 @@ module _ (net : Net) (sound : Sound net) (w : ℕ → ℕ → ℕ) where
           → total net.links (λ j. cond (eqb (net.link i).to (net.link j).from) (cond (is o j) (w j x) 0) 0) ≡ onto o (λ j. w j x)
       go None h = total_none net.links _ (λ i h. cond_zero _)
       go (Some k) h = let l = left_from net (net.link i).to k (h k refl) in
-          total_one net.links _ k l.0 (λ j q d. ap (λ n. cond (eqb (net.link i).to (net.link j).from) n 0) (cond_no (eqb k j) _ (ne_eqb k j (λ e. d (sym e)))) ∙ cond_zero _)
-          ∙ cond_yes _ _ (eq-eqb _ _ (sym l.1)) ∙ cond_yes _ _ (eq-eqb k k refl)
+          total_one net.links _ k l.0 (λ j q d. ap (λ n. cond (eqb (net.link i).to (net.link j).from) n 0) (cond-false (eqb k j) _ _ (ne_eqb k j (λ e. d (sym e)))) ∙ cond_zero _)
+          ∙ cond-true _ _ _ (eq-eqb _ _ (sym l.1)) ∙ cond-true _ _ _ (eq-eqb k k refl)
 
   -- over the links that a node lets out, each vehicle counts once, by the link that it takes
   pub each_once : (i : ℕ) (vs : List Vehicle)
@@ -94,10 +89,6 @@ module _ (net : Net) (sound : Sound net) (c : Curves) (w : ℕ → ℕ → ℕ) 
       ∙ total_swap net.links net.links (λ j i. cond (eqb (net.link i).to (net.link j).from) (worth i j) 0)
       ∙ total_ext net.links _ _ (λ i h. each_once net sound w i (leavers net c i t))
 
-pub drop_nil : {X : Type 0} (n : ℕ) → drop {A = X} n [] ≡ []
-drop_nil zero = refl
-drop_nil (suc n) = refl
-
 drop_min : {X : Type 0} (r : ℕ) (xs : List X) → drop (length (take r xs)) xs ≡ drop r xs
 drop_min r xs = go (cases_lt r (length xs))
   where
@@ -117,7 +108,7 @@ module _ (net : Net) (sound : Sound net) (c : Curves) (T : ℕ) (booked : ℕ �
       B = booked t (net.link j).from
 
       nil : B ≡ [] → waiting net c B j (t + 1) ≡ drop (R net c j t) (waiting net c B j t)
-      nil e = rw (e, drop_nil (U net c j t), drop_nil (U net c j (t + 1)), drop_nil (R net c j t))
+      nil e = rw (e, drop-nil (U net c j t), drop-nil (U net c j (t + 1)), drop-nil (R net c j t))
 
       served : AllByRecursion (λ x. (n : ℕ) × Served net (net.link j).from x n) B
       served = lawful.served t (net.link j).from (omega arith)

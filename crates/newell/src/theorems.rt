@@ -7,77 +7,57 @@ ghost use Rattle.newell.specs.Corridor.{CorridorWorked, DivergeWorked};
 ghost use Rattle.newell.specs.Now.{StepCarries, BookingCarries, OpeningStarts, IdleCarries, LinkTells, EntranceTells, ExitTells, RanCarries, EachMoment, ReachedSafe};
 
 /// For every list of calls there is a plain run.
-pub fn plain_run_there() -> u8
+pub fn plain_run_there()
     ensures { PlainRunThere }
-{
-    0
-}
+{}
 
 /// Two plain runs for the same calls agree, in every answer and at every clock.
-pub fn one_plain_run() -> u8
+pub fn one_plain_run()
     ensures { OnePlainRun }
-{
-    0
-}
+{}
 
 /// All that is promised of a run holds at each moment.
-pub fn promise_holds() -> u8
+pub fn promise_holds()
     ensures { AtEachMoment }
-{
-    0
-}
+{}
 
 /// For each exit, those waiting, on links and gone are those booked.
-pub fn vehicles_conserved() -> u8
+pub fn vehicles_conserved()
     ensures { VehiclesConserved }
-{
-    0
-}
+{}
 
 /// Jam storage, capacity at both ends, and free steps.
-pub fn bounds_kept() -> u8
+pub fn bounds_kept()
     ensures { BoundsKept }
-{
-    0
-}
+{}
 
 /// Vehicles leave links, and come on them, in order.
-pub fn order_kept() -> u8
+pub fn order_kept()
     ensures { OrderKept }
-{
-    0
-}
+{}
 
 /// The travel time is t + 1 less the first clock at which U reached V(t + 1).
-pub fn travel_times() -> u8
+pub fn travel_times()
     ensures { TravelTimes }
-{
-    0
-}
+{}
 
 /// Without bookings a run is empty after enough steps.
-pub fn runs_clear() -> u8
+pub fn runs_clear()
     ensures { RunsClear }
-{
-    0
-}
+{}
 
 /// What left the links that enter a node came on those that leave it.
-pub fn nodes_balanced() -> u8
+pub fn nodes_balanced()
     ensures { NodesBalanced }
-{
-    0
-}
+{}
 
 /// Newell's counts are the least of three.
-pub fn least_of_three() -> u8
+pub fn least_of_three()
     ensures { LeastOfThree }
-{
-    0
-}
+{}
 
 /// What code shows of the readings that it keeps takes the plain run on, call by call.
-pub fn calls_carry() -> u8
+pub fn calls_carry()
     ensures opening { OpeningStarts }
     ensures booking { BookingCarries }
     ensures stepping { StepCarries }
@@ -88,24 +68,18 @@ pub fn calls_carry() -> u8
     ensures one_by_one { RanCarries }
     ensures moments { EachMoment }
     ensures safe { ReachedSafe }
-{
-    0
-}
+{}
 
 /// The numbers that clearing asks for are there.
-pub fn clearing_numbers() -> u8
+pub fn clearing_numbers()
     ensures walk { LongestWalkThere }
     ensures steps { LongestStepsThere }
     ensures period { PeriodOpens }
     ensures meter { MeterOpens }
-{
-    0
-}
+{}
 
 /// The definitions on cases worked by hand.
-pub fn worked_cases() -> u8
+pub fn worked_cases()
     ensures corridor { CorridorWorked }
     ensures diverge { DivergeWorked }
-{
-    0
-}
+{}
