@@ -3,3 +3,4 @@ pub mod Tables
 pub mod Faults
 pub mod Tokens
 pub mod Texts
+pub mod Numbers

@@ -1,6 +1,8 @@
 // What a reader of words refuses, and what any fault of a file tells.
 ghost use Rattle.std.specs.Prelude.{◌≡◌};
-ghost use Rattle.words.specs.Faults.{word_told};
+ghost use Rattle.words.specs.Faults.{told, word_told};
+
+use crate::position::Position;
 
 // The layer that refuses: a word, a row, or the file as a whole.
 #[derive(Clone, Copy, Debug, PartialEq)]
@@ -12,6 +14,7 @@ pub enum Layer {
 
 // What a fault tells: its number, its line from 1, its place in bytes from 0, its layer, and the node
 // that it is about, 0 where it is about none.
+// The number, line 0 for the file as a whole and node 0 for none are the fixed format of refusals.
 #[derive(Clone, Copy)]
 pub struct Told {
     pub number: u8,
@@ -21,32 +24,42 @@ pub struct Told {
     pub node: u16,
 }
 
+impl Told {
+    // A fault of this layer that is about no node.
+    pub fn new(layer: Layer, number: u8, at: Position) -> Told
+        ensures { result ≡ told number at layer 0 }
+    {
+        Told {
+            number,
+            line: at.line,
+            place: at.place,
+            layer,
+            node: 0,
+        }
+    }
+}
+
 // A fault of a word.
 #[derive(Clone, Copy, Debug)]
 pub enum WordFault {
     // a byte that no word has
-    Byte { line: usize, place: usize },
+    Byte { at: Position },
     // an empty word or line
-    Empty { line: usize, place: usize },
+    Empty { at: Position },
     // no line feed
-    Feed { line: usize, place: usize },
+    Feed { at: Position },
 }
 
 impl WordFault {
     pub fn told(&self) -> Told
         ensures { result ≡ word_told self.now }
     {
-        let (number, line, place) = match *self {
-            WordFault::Byte { line, place } => (2, line, place),
-            WordFault::Empty { line, place } => (3, line, place),
-            WordFault::Feed { line, place } => (4, line, place),
+        // Each case's number stands in its arm: a case with a field has no discriminant to read.
+        let (number, at) = match *self {
+            WordFault::Byte { at } => (2, at),
+            WordFault::Empty { at } => (3, at),
+            WordFault::Feed { at } => (4, at),
         };
-        Told {
-            number,
-            line,
-            place,
-            layer: Layer::Word,
-            node: 0,
-        }
+        Told::new(Layer::Word, number, at)
     }
 }
