@@ -19,6 +19,7 @@ use Rattle.rows.specs.declared.kind.Kind.TheVariants.{Net, Link, Route, Merge, M
 use Rattle.rows.specs.declared.kind.Stage.{Stage}
 use Rattle.rows.specs.declared.row.Row.{Row}
 use Rattle.rows.specs.declared.row.Row.TheVariants as row
+use Rattle.rows.specs.declared.row.CallRow.TheVariants as call
 use Rattle.rows.proofs.OneKind.{one_kind}
 
 -- no number that is wanted is over 65,535
@@ -92,9 +93,9 @@ counted (row.Route n x k) = refl
 counted (row.Merge u) = refl
 counted (row.Meter n u t) = refl
 counted row.Go = refl
-counted (row.Book n x k) = refl
-counted (row.Step k) = refl
-counted row.Show = refl
+counted (row.Call (call.Book n x k)) = refl
+counted (row.Call (call.Step k)) = refl
+counted (row.Call call.Show) = refl
 
 all_fit : (ws : List Want) (fs : List Field) (xs : List Spot) → texts xs ≡ map written fs → Allowed ws fs → Never (Unfit ws xs)
 all_fit [] fs xs e a q u = u
@@ -195,9 +196,9 @@ rebuilt Route fs = row.Route (num 0 fs) (num 1 fs) (num 2 fs)
 rebuilt Merge fs = row.Merge (rule_in (get_or fs 0 (number 0)))
 rebuilt Meter fs = row.Meter (num 0 fs) (num 1 fs) (num 2 fs)
 rebuilt Go fs = row.Go
-rebuilt Book fs = row.Book (num 0 fs) (num 1 fs) (num 2 fs)
-rebuilt Step fs = row.Step (num 0 fs)
-rebuilt Show fs = row.Show
+rebuilt Book fs = row.Call (call.Book (num 0 fs) (num 1 fs) (num 2 fs))
+rebuilt Step fs = row.Call (call.Step (num 0 fs))
+rebuilt Show fs = row.Call call.Show
 
 rebuilt_is : (r : Row) → rebuilt (kind_of r) (fields_of r) ≡ r
 rebuilt_is (row.Net n l) = refl
@@ -206,9 +207,9 @@ rebuilt_is (row.Route n x k) = refl
 rebuilt_is (row.Merge u) = refl
 rebuilt_is (row.Meter n u t) = refl
 rebuilt_is row.Go = refl
-rebuilt_is (row.Book n x k) = refl
-rebuilt_is (row.Step k) = refl
-rebuilt_is row.Show = refl
+rebuilt_is (row.Call (call.Book n x k)) = refl
+rebuilt_is (row.Call (call.Step k)) = refl
+rebuilt_is (row.Call call.Show) = refl
 
 pub same_row : (nodes links : ℕ) → nodes ≤ 65535 → links ≤ 65535 → (r s : Row) → Ranged nodes links r → Ranged nodes links s → spelled r ≡ spelled s → r ≡ s
 same_row nodes links few small r s a b e =

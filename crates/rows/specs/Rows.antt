@@ -6,6 +6,7 @@ use Rattle.rows.specs.declared.kind.Kind.{Kind}
 use Rattle.rows.specs.declared.kind.Kind.TheVariants.{Net, Link, Route, Merge, Meter, Go, Book, Step, Show}
 use Rattle.rows.specs.declared.row.Row.{Row}
 use Rattle.rows.specs.declared.row.Row.TheVariants as row
+use Rattle.rows.specs.declared.row.CallRow.TheVariants as call
 use Rattle.merge.specs.declared.choice.Choice.{Choice}
 use Rattle.merge.specs.declared.choice.Choice.TheVariants.{Fair, Ramp, Zip}
 
@@ -30,9 +31,9 @@ kind_of (row.Route n e k) = Route
 kind_of (row.Merge r) = Merge
 kind_of (row.Meter n r t) = Meter
 kind_of row.Go = Go
-kind_of (row.Book n e k) = Book
-kind_of (row.Step k) = Step
-kind_of row.Show = Show
+kind_of (row.Call (call.Book n e k)) = Book
+kind_of (row.Call (call.Step k)) = Step
+kind_of (row.Call call.Show) = Show
 
 abbrev pub fields_of : Row → List Field
 fields_of (row.Net n l) = number n ∷ number l ∷ []
@@ -41,9 +42,9 @@ fields_of (row.Route n e k) = number n ∷ number e ∷ number k ∷ []
 fields_of (row.Merge r) = rule r ∷ []
 fields_of (row.Meter n r t) = number n ∷ number r ∷ number t ∷ []
 fields_of row.Go = []
-fields_of (row.Book n e k) = number n ∷ number e ∷ number k ∷ []
-fields_of (row.Step k) = number k ∷ []
-fields_of row.Show = []
+fields_of (row.Call (call.Book n e k)) = number n ∷ number e ∷ number k ∷ []
+fields_of (row.Call (call.Step k)) = number k ∷ []
+fields_of (row.Call call.Show) = []
 
 -- the words of a row
 abbrev pub spelled : Row → List (List ℕ)

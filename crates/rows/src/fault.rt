@@ -1,22 +1,22 @@
 // What a reader of rows refuses.
 ghost use Rattle.std.specs.Prelude.{◌≡◌};
 ghost use Rattle.rows.specs.declared.fault.RowFault.TheVariants.{Word};
-ghost use Rattle.rows.specs.Faults.{row_told, rowed};
+ghost use Rattle.rows.specs.Faults.{row_told};
 
-use words::{Layer, Told, WordFault};
+use words::{Layer, Position, Told, WordFault};
 
 // A fault of a row; a word's is kept whole.
 #[derive(Clone, Copy, Debug)]
 pub enum RowFault {
     Word { fault: WordFault },
     // no row has this name
-    Name { line: usize, place: usize },
+    Name { at: Position },
     // the row is out of order
-    Order { line: usize, place: usize },
+    Order { at: Position },
     // a wrong count of words
-    Count { line: usize, place: usize },
+    Count { at: Position },
     // a word that is no number in range, or no rule's name
-    Value { line: usize, place: usize },
+    Value { at: Position },
 }
 
 impl From<WordFault> for RowFault {
@@ -27,28 +27,18 @@ impl From<WordFault> for RowFault {
     }
 }
 
-fn row_told(number: u8, line: usize, place: usize) -> Told
-    ensures { result ≡ rowed number line place }
-{
-    Told {
-        number,
-        line,
-        place,
-        layer: Layer::Row,
-        node: 0,
-    }
-}
-
 impl RowFault {
     pub fn told(&self) -> Told
         ensures { result ≡ row_told self.now }
     {
-        match *self {
-            RowFault::Word { fault } => fault.told(),
-            RowFault::Name { line, place } => row_told(11, line, place),
-            RowFault::Order { line, place } => row_told(12, line, place),
-            RowFault::Count { line, place } => row_told(13, line, place),
-            RowFault::Value { line, place } => row_told(14, line, place),
-        }
+        // Each case's number stands in its arm: a case with a field has no discriminant to read.
+        let (number, at) = match *self {
+            RowFault::Word { fault } => return fault.told(),
+            RowFault::Name { at } => (11, at),
+            RowFault::Order { at } => (12, at),
+            RowFault::Count { at } => (13, at),
+            RowFault::Value { at } => (14, at),
+        };
+        Told::new(Layer::Row, number, at)
     }
 }

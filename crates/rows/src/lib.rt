@@ -6,5 +6,5 @@ pub mod kind;
 pub mod row;
 
 pub use fault::RowFault;
-pub use kind::{Kind, Stage};
-pub use row::Row;
+pub use kind::{Kind, Stage, UnknownName};
+pub use row::{CallRow, Counts, Row};
