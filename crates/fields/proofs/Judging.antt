@@ -1,11 +1,11 @@
 -- A line whose words are good is judged as a row, down the table. Assumes nothing.
-use Rattle.std.proofs.Common.{◌≡◌, ℕ, ◌+◌, ◌<◌, true, false, List, ◌∷◌, map, length, Some, Err, Option, sym, refl, ap, ◌∙◌, subst, inl, inr, arith, MatchOption}
-use Rattle.std.proofs.lemmas.Option.{MatchOption-at_some, MatchOption-at_none}
+use Rattle.std.proofs.Common.{◌≡◌, ℕ, ◌+◌, ◌<◌, true, false, List, ◌∷◌, map, length, Err, sym, refl, ap, ◌∙◌, subst, inl, inr, arith}
 use Rattle.std.proofs.lemmas.Bool.{both_ways}
+use Rattle.words.specs.Faults.{position}
 use Rattle.words.specs.Lines.{Spot, words_at, end_at, word_checks}
 use Rattle.words.specs.Tables.{First, Never, Refuses, Passes}
 use Rattle.words.specs.Texts.{texts}
-use Rattle.words.specs.Tokens.{Taken, RefusedWords}
+use Rattle.words.specs.Tokens.{Taken}
 use Rattle.words.specs.declared.fault.Told.{Told}
 use Rattle.words.proofs.Texts.{line_stands}
 use Rattle.rows.specs.Kinds.{name_of, count_of, in_order}
@@ -18,7 +18,7 @@ use Rattle.rows.specs.declared.kind.Kind.{Kind}
 use Rattle.rows.specs.declared.kind.Stage.{Stage}
 use Rattle.rows.specs.declared.row.Row.{Row}
 use Rattle.rows.proofs.OneKind.{one_named}
-use Rattle.fields.specs.Taking.{left_of, Within, Checked}
+use Rattle.fields.specs.Taking.{left_of, Checked}
 use Rattle.fields.proofs.Series.{left_in, left_taken}
 
 at_once : (p : ℕ) (X : Type 0) → X → First (λ q. (q ≡ p) × X) p
@@ -28,8 +28,8 @@ module _ (file : List ℕ) (p : ℕ) (stage : Stage) (nodes links : ℕ) (good :
   behind_words : (t : Told) → Refuses (row_checks stage nodes links p (words_at file p)) t → Refuses (line_checks file p stage nodes links) t
   behind_words t h = inr (good.0, inr (good.1.0, inr (good.1.1.0, h)))
 
-  pub row_name : (l : ℕ) (w : Spot) (ws : List Spot) → words_at file p ≡ w ∷ ws → ((k : Kind) → w.text ≡ name_of k → ⊥) → Refuses (line_checks file p stage nodes links) (rowed 11 l p)
-  row_name l w ws cut none = behind_words (rowed 11 l p) (inl (record { number = refl; layer = refl; first = at_once p _ (λ k h. none k (subst (λ (x : List Spot). Named x k) cut h)) }))
+  pub row_name : (l : ℕ) (w : Spot) (ws : List Spot) → words_at file p ≡ w ∷ ws → ((k : Kind) → w.text ≡ name_of k → ⊥) → Refuses (line_checks file p stage nodes links) (rowed 11 (position l p))
+  row_name l w ws cut none = behind_words (rowed 11 (position l p)) (inl (record { number = refl; layer = refl; first = at_once p _ (λ k h. none k (subst (λ (x : List Spot). Named x k) cut h)) }))
 
   module _ (l : ℕ) (w : Spot) (ws : List Spot) (cut : words_at file p ≡ w ∷ ws) (kind : Kind) (is : w.text ≡ name_of kind) where
     named : Named (words_at file p) kind
@@ -41,19 +41,19 @@ module _ (file : List ℕ) (p : ℕ) (stage : Stage) (nodes links : ℕ) (good :
     known : Never (λ q. (q ≡ p) × ((k : Kind) → Named (words_at file p) k → ⊥))
     known k h = h.1 kind named
 
-    pub row_order : in_order stage kind ≡ false → Refuses (line_checks file p stage nodes links) (rowed 12 l p)
-    row_order out = behind_words (rowed 12 l p) (inr (known, inl (record { number = refl; layer = refl; first = at_once p _ (kind, named, out) })))
+    pub row_order : in_order stage kind ≡ false → Refuses (line_checks file p stage nodes links) (rowed 12 (position l p))
+    row_order out = behind_words (rowed 12 (position l p)) (inr (known, inl (record { number = refl; layer = refl; first = at_once p _ (kind, named, out) })))
 
     module _ (in' : in_order stage kind ≡ true) where
       ordered : Never (λ q. (q ≡ p) × ((k : Kind) × Named (words_at file p) k × (in_order stage k ≡ false)))
       ordered k h = both_ways _ h.1.2 (ap (in_order stage) (only h.1.0 h.1.1) ∙ in')
 
-      pub row_count : (length (words_at file p) ≡ count_of kind → ⊥) → Refuses (line_checks file p stage nodes links) (rowed 13 l p)
-      row_count bad = behind_words (rowed 13 l p) (inr (known, inr (ordered, inl (record { number = refl; layer = refl; first = at_once p _ (kind, named, bad) }))))
+      pub row_count : (length (words_at file p) ≡ count_of kind → ⊥) → Refuses (line_checks file p stage nodes links) (rowed 13 (position l p))
+      row_count bad = behind_words (rowed 13 (position l p)) (inr (known, inr (ordered, inl (record { number = refl; layer = refl; first = at_once p _ (kind, named, bad) }))))
 
-      pub row_value : length (words_at file p) ≡ count_of kind → (q : ℕ) → First (Unfit (wants nodes links kind) ws) q → Refuses (line_checks file p stage nodes links) (rowed 14 l q)
+      pub row_value : length (words_at file p) ≡ count_of kind → (q : ℕ) → First (Unfit (wants nodes links kind) ws) q → Refuses (line_checks file p stage nodes links) (rowed 14 (position l q))
       row_value count q bad =
-          behind_words (rowed 14 l q)
+          behind_words (rowed 14 (position l q))
           (inr (
             known,
             inr (
@@ -81,40 +81,17 @@ module _ (file : List ℕ) (p : ℕ) (stage : Stage) (nodes links : ℕ) (good :
 pub behind_first : (file : List ℕ) (e p p' : ℕ) (w : Spot) → end_at file p ≡ e → Taken file p p' w → words_at file p ≡ w ∷ left_of file e p'
 behind_first file e p p' w is t = sym (left_in file e p (omega arith)) ∙ (left_taken file e p p' w is t).0
 
-pub words_refused : (file : List ℕ) (p l : ℕ) (stage : Stage) (nodes links : ℕ) (t : Told) → RefusedWords file p l t → Refused file p l stage nodes links t
-words_refused file p l stage nodes links t r = record { checks = more r.checks; line = r.line; node = r.node }
-  where
-    more : Refuses (word_checks file p) t → Refuses (line_checks file p stage nodes links) t
-    more (inl a) = inl a
-    more (inr (a, inl b)) = inr (a, inl b)
-    more (inr (a, inr (b, inl c))) = inr (a, inr (b, inl c))
-    more (inr (a, inr (b, inr (c, d)))) = absurd d
-
-pub row_refused : (file : List ℕ) (p l n l' q : ℕ) (stage : Stage) (nodes links : ℕ) → l' ≡ l → Refuses (line_checks file p stage nodes links) (rowed n l' q) → Refused file p l stage nodes links (rowed n l' q)
-row_refused file p l n l' q stage nodes links e r = record { checks = r; line = e; node = refl }
-
-pub row_refused_here : (file : List ℕ) (p l n l' p' : ℕ) (stage : Stage) (nodes links : ℕ) → l' ≡ l → p' ≡ p → Refuses (line_checks file p stage nodes links) (rowed n l' p) → Refused file p l stage nodes links (rowed n l' p')
-row_refused_here file p l n l' p' stage nodes links e is r = row_refused file p l n l' p' stage nodes links e (subst (λ q. Refuses (line_checks file p stage nodes links) (rowed n l' q)) (sym is) r)
-
--- behind the first word of a line that has its line feed
-pub within_behind : (file f : List ℕ) (e p p' : ℕ) (w : Spot) → f ≡ file → e ≡ end_at file p → e < length file → Taken file p p' w → Within f e p' × (length (left_of f e p') + 1 ≡ length (words_at file p))
-within_behind file f e p p' w same is fed t =
-    let step = left_taken file e p p' w (sym is) t in
-    subst (λ (x : List ℕ). Within x e p' × (length (left_of x e p') + 1 ≡ length (words_at file p))) (sym same)
-    (record { fed = fed; at = step.1 }, omega (arith, ap length (behind_first file e p p' w (sym is) t)))
-
--- what `kind_of` found
-pub kind_named : (w : Spot) (k : Kind) (o : Option Kind) → MatchOption o ((j : Kind) → w.text ≡ name_of j → ⊥) (λ j. w.text ≡ name_of j) → o ≡ Some k → w.text ≡ name_of k
-kind_named w k o h e = MatchOption-at_some ((j : Kind) → w.text ≡ name_of j → ⊥) (λ j. w.text ≡ name_of j) k e h
+pub row_refused : (file : List ℕ) (p l n q : ℕ) (stage : Stage) (nodes links : ℕ) → Refuses (line_checks file p stage nodes links) (rowed n (position l q)) → Refused file p l stage nodes links (rowed n (position l q))
+row_refused file p l n q stage nodes links r = record { checks = r; line = refl; node = refl }
 
 -- a name, order or count that is wrong is refused at the row's start
-pub unchecked : (file : List ℕ) (p l : ℕ) (stage : Stage) (nodes links : ℕ) → Passes (word_checks file p) → (w : Spot) (ws : List Spot) → words_at file p ≡ w ∷ ws → (o : Option Kind) → MatchOption o ((j : Kind) → w.text ≡ name_of j → ⊥) (λ j. w.text ≡ name_of j) → (count l' p' : ℕ) → count ≡ length (words_at file p) → l' ≡ l → p' ≡ p → (f : RowFault) → Checked o stage count l' p' (Err f) → Refused file p l stage nodes links (row_told f)
-unchecked file p l stage nodes links good w ws cut o named count l' p' n le pe f (inl a) =
+pub unchecked : (file : List ℕ) (p l : ℕ) (stage : Stage) (nodes links : ℕ) → Passes (word_checks file p) → (w : Spot) (ws : List Spot) → words_at file p ≡ w ∷ ws → (count : ℕ) → count ≡ length (words_at file p) → (f : RowFault) → Checked w.text stage count (position l p) (Err f) → Refused file p l stage nodes links (row_told f)
+unchecked file p l stage nodes links good w ws cut count n f (inl a) =
     subst (λ (x : RowFault). Refused file p l stage nodes links (row_told x)) (sym a.1)
-    (row_refused_here file p l 11 l' p' stage nodes links le pe (row_name file p stage nodes links good l' w ws cut (MatchOption-at_none ((j : Kind) → w.text ≡ name_of j → ⊥) (λ j. w.text ≡ name_of j) a.0 named)))
-unchecked file p l stage nodes links good w ws cut o named count l' p' n le pe f (inr (inl a)) =
+    (row_refused file p l 11 p stage nodes links (row_name file p stage nodes links good l w ws cut a.0))
+unchecked file p l stage nodes links good w ws cut count n f (inr (inl a)) =
     subst (λ (x : RowFault). Refused file p l stage nodes links (row_told x)) (sym a.3)
-    (row_refused_here file p l 12 l' p' stage nodes links le pe (row_order file p stage nodes links good l' w ws cut a.0 (kind_named w a.0 o named a.1) a.2))
-unchecked file p l stage nodes links good w ws cut o named count l' p' n le pe f (inr (inr a)) =
+    (row_refused file p l 12 p stage nodes links (row_order file p stage nodes links good l w ws cut a.0 a.1 a.2))
+unchecked file p l stage nodes links good w ws cut count n f (inr (inr a)) =
     subst (λ (x : RowFault). Refused file p l stage nodes links (row_told x)) (sym a.4)
-    (row_refused_here file p l 13 l' p' stage nodes links le pe (row_count file p stage nodes links good l' w ws cut a.0 (kind_named w a.0 o named a.1) a.2 (λ e. a.3 (n ∙ e))))
+    (row_refused file p l 13 p stage nodes links (row_count file p stage nodes links good l w ws cut a.0 a.1 a.2 (λ e. a.3 (n ∙ e))))

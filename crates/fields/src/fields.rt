@@ -1,164 +1,102 @@
 // Reads the words behind a row's name.
-ghost use Rattle.std.specs.Prelude.{◌≡◌, ℕ, ◌+◌, ◌-◌, ◌<◌, ◌≤◌, map, length, take, MatchOption, ◌≢◌};
-ghost use Rattle.words.specs.Lines.{end_at};
+ghost use Rattle.std.specs.Prelude.{◌≡◌, ◌+◌, ◌≤◌, true, [], map, length, Decides, MatchOption, ◌≢◌};
 ghost use Rattle.words.specs.Texts.{texts};
-ghost use Rattle.rows.specs.Kinds.{count_of};
-ghost use Rattle.rows.specs.Rows.{kind_of, fields_of, rule_text, written};
-ghost use Rattle.rows.specs.Wants.{wants, Allowed, Ranged};
-ghost use Rattle.rows.specs.declared.kind.Kind.TheVariants.{Merge, Link as LinkKind};
+ghost use Rattle.rows.specs.Kinds.{count_of, in_order};
+ghost use Rattle.rows.specs.declared.kind.Stage.TheVariants.{Calls};
+ghost use Rattle.rows.specs.Rows.{number, rule, kind_of, fields_of, rule_text, written};
+ghost use Rattle.rows.specs.Wants.{wants, rule_name, Allowed, Ranged};
+ghost use Rattle.rows.specs.declared.kind.Kind.TheVariants.{Link as LinkKind};
 ghost use Rattle.merge.specs.declared.choice.Choice.{Choice as Rules};
 ghost use Rattle.rows.specs.declared.row.Row.TheVariants as rowed;
-ghost use Rattle.fields.specs.Taking.{want, numbered, GotOne, GotRule, Judged, Within, left_of, Narrow};
+ghost use Rattle.fields.specs.Taking.{want, from_one, numbered, Got, Judged, rest_of};
 
+use crate::rest::Rest;
 use merge::Choice;
 use network::Link;
-use rows::{Kind, Row, RowFault};
-use words::{Reader, Word};
+use rows::{CallRow, Counts, Kind, Row, RowFault};
 
-// A number from `low` to `high`.
+// A number from `low` to `high`. std's inclusive range is not `Copy`, and remembers whether it is spent:
+// each contract here would have to say that it is not.
 #[derive(Clone, Copy)]
 pub struct Range {
     pub low: u16,
     pub high: u16,
 }
 
-// The next word, a number in range.
-fn number_in(words: &mut Reader, range: Range) -> Result<u16, RowFault>
-    requires { end_at words.old.file.now words.old.place < length words.old.file.now }
-    ensures got { GotOne words.old.file.now words.old.place words.new.place words.old.line (want range) result }
-    ensures kept { (words.new.file.now ≡ words.old.file.now) × (words.new.line ≡ words.old.line) }
-{
-    let line = words.line();
-    match words.word() {
-        Word::Number { value, .. } if range.low <= value && value <= range.high => Ok(value),
-        Word::Number { place, .. } => Err(RowFault::Value { line, place }),
-        Word::Name { place, .. } => Err(RowFault::Value { line, place }),
+// The ranges of the file format: what a row's numbers may be, but for nodes and links.
+const NODES: Range = Range { low: 2, high: 32 };
+
+const LINKS: Range = Range { low: 1, high: 48 };
+
+const STEPS: Range = Range { low: 1, high: 63 };
+
+const FLOW: Range = Range { low: 1, high: 200 };
+
+const ROOM: Range = Range { low: 1, high: 2000 };
+
+const ANY: Range = Range {
+    low: 0,
+    high: 65535,
+};
+
+impl Range {
+    // From 1 on.
+    fn up_to(high: u16) -> Range
+        ensures { result ≡ from_one high }
+    {
+        Range { low: 1, high }
+    }
+
+    fn contains(self, value: u16) -> bool
+        ensures { Decides result ((self.low ≤ value) × (value ≤ self.high)) }
+    {
+        (self.low..=self.high).contains(&value)
     }
 }
 
-// The numbers of a row that has as many words left as there are ranges; the line ends at `end`.
-fn numbers(words: &mut Reader, end: usize, ranges: &[Range]) -> Result<[u16; 6], RowFault>
-    requires within { Within words.old.file.now end words.old.place }
-    requires counted { length (left_of words.old.file.now end words.old.place) ≡ length ranges.now }
-    requires few { length ranges.now ≤ 6 }
-    ensures { Judged (map want ranges.now) (left_of words.old.file.now end words.old.place) words.old.line result (λ ns. (texts (left_of words.old.file.now end words.old.place) ≡ map written (numbered (take (length ranges.now) ns))) × Allowed (map want ranges.now) (numbered (take (length ranges.now) ns)) × (length ns ≡ 6)) }
+// The next word, a number in range.
+fn number_in(rest: &mut Rest, range: Range) -> Result<u16, RowFault>
+    requires { rest_of rest.old ≢ [] }
+    ensures got { Got (rest_of rest.old) (rest_of rest.new) rest.old.words.at.line rest.new.words.at.place result (want range) number }
+    ensures kept { rest.new.words.at.line ≡ rest.old.words.at.line }
 {
-    let mut out = [0; 6];
-    for i in 0..ranges.len() {
-        out[i] = number_in(words, ranges[i])?;
+    let word = rest.word();
+    let fitting = word.number().filter(|value| range.contains(*value));
+    fitting.ok_or(RowFault::Value { at: word.at() })
+}
+
+// The numbers of a row that has as many words left as there are ranges.
+fn numbers<const N: usize>(rest: &mut Rest, ranges: [Range; N]) -> Result<[u16; N], RowFault>
+    requires counted { length (rest_of rest.old) ≡ N }
+    ensures { Judged (map want ranges.entry) (rest_of rest.old) rest.old.words.at.line result (λ ns. (texts (rest_of rest.old) ≡ map written (numbered ns)) × Allowed (map want ranges.entry) (numbered ns)) }
+{
+    // By the range's index: a map of the array can't stop at the first word that is refused.
+    let mut out = [0; N];
+    for (i, range) in ranges.iter().enumerate() {
+        out[i] = number_in(rest, *range)?;
     }
     Ok(out)
 }
 
-// The ranges of a row's numbers; a `merge` row has none.
-fn ranges_of(kind: Kind, nodes: u16, links: u16) -> ([Range; 6], usize)
-    requires { kind ≢ Merge }
-    ensures few { (result.1 ≤ 6) × ((length result.0 ≡ 6) × (result.1 + 1 ≡ count_of kind)) }
-    ensures wanted { map want (take result.1 result.0) ≡ wants nodes links kind }
+// The next words, the numbers of a link.
+fn link_in(rest: &mut Rest, counts: Counts) -> Result<Link, RowFault>
+    requires counted { length (rest_of rest.old) ≡ 6 }
+    ensures { Judged (wants counts.nodes counts.links LinkKind) (rest_of rest.old) rest.old.words.at.line result (λ k. (texts (rest_of rest.old) ≡ map written (fields_of (rowed.Link k))) × Ranged counts.nodes counts.links (rowed.Link k)) }
 {
-    let none = Range { low: 0, high: 0 };
-    let any = Range {
-        low: 0,
-        high: 65535,
-    };
-    let node = Range {
-        low: 1,
-        high: nodes,
-    };
-    let link = Range {
-        low: 1,
-        high: links,
-    };
-    let steps = Range { low: 1, high: 63 };
-    let flow = Range { low: 1, high: 200 };
-    match kind {
-        Kind::Net => (
-            [
-                Range { low: 2, high: 32 },
-                Range { low: 1, high: 48 },
-                none,
-                none,
-                none,
-                none,
-            ],
-            2,
-        ),
-        Kind::Link => (
-            [node, node, steps, steps, flow, Range { low: 1, high: 2000 }],
-            6,
-        ),
-        Kind::Route => ([node, node, link, none, none, none], 3),
-        Kind::Meter => ([node, flow, steps, none, none, none], 3),
-        Kind::Book => ([any, any, any, none, none, none], 3),
-        Kind::Step => (
-            [
-                Range {
-                    low: 1,
-                    high: 65535,
-                },
-                none,
-                none,
-                none,
-                none,
-                none,
-            ],
-            1,
-        ),
-        Kind::Go | Kind::Show => ([none, none, none, none, none, none], 0),
-        Kind::Merge => unreachable(),
-    }
+    let node = Range::up_to(counts.nodes);
+    let ranges = [node, node, STEPS, STEPS, FLOW, ROOM];
+    let [from, to, free, wave, capacity, storage] = numbers(rest, ranges)?;
+    Ok(Link {
+        from: from as u8,
+        to: to as u8,
+        free: free as u8,
+        wave: wave as u8,
+        capacity: capacity as u8,
+        storage,
+    })
 }
 
-// The link that the numbers of a `link` row make.
-fn link_of(n: [u16; 6]) -> Link
-    requires { (Narrow n) × (length n ≡ 6) }
-    ensures { fields_of (rowed.Link result) ≡ numbered n }
-{
-    Link {
-        from: n[0] as u8,
-        to: n[1] as u8,
-        free: n[2] as u8,
-        wave: n[3] as u8,
-        capacity: n[4] as u8,
-        storage: n[5],
-    }
-}
-
-// The row that the numbers make.
-fn row_of(kind: Kind, n: [u16; 6]) -> Row
-    requires kind { (kind ≢ Merge) × (length n ≡ 6) }
-    requires narrow { kind ≡ LinkKind → Narrow n }
-    ensures kind { kind_of result ≡ kind }
-    ensures says { fields_of result ≡ numbered (take (count_of kind - 1) n) }
-{
-    match kind {
-        Kind::Net => Row::Net {
-            nodes: n[0],
-            links: n[1],
-        },
-        Kind::Link => Row::Link { link: link_of(n) },
-        Kind::Route => Row::Route {
-            node: n[0],
-            exit: n[1],
-            link: n[2],
-        },
-        Kind::Meter => Row::Meter {
-            node: n[0],
-            rate: n[1],
-            period: n[2],
-        },
-        Kind::Book => Row::Book {
-            entrance: n[0],
-            exit: n[1],
-            count: n[2],
-        },
-        Kind::Step => Row::Step { count: n[0] },
-        Kind::Go => Row::Go,
-        Kind::Show => Row::Show,
-        Kind::Merge => unreachable(),
-    }
-}
-
+// An impl of TryFrom would have to lie in `merge`, which knows no texts.
 fn rule_named(text: &[u8]) -> Option<Choice>
     ensures { MatchOption result ((k : Rules) → text.now ≢ rule_text k) (λ k. text.now ≡ rule_text k) }
 {
@@ -171,40 +109,70 @@ fn rule_named(text: &[u8]) -> Option<Choice>
 }
 
 // The next word, a rule's name.
-fn rule_in(words: &mut Reader) -> Result<Choice, RowFault>
-    requires { end_at words.old.file.now words.old.place < length words.old.file.now }
-    ensures { GotRule words.old.file.now words.old.place words.new.place words.old.line result }
+fn rule_in(rest: &mut Rest) -> Result<Choice, RowFault>
+    requires { rest_of rest.old ≢ [] }
+    ensures { Got (rest_of rest.old) (rest_of rest.new) rest.old.words.at.line rest.new.words.at.place result rule_name rule }
 {
-    let line = words.line();
-    let (text, place) = match words.word() {
-        Word::Name { text, place } => (text, place),
-        Word::Number { text, place, .. } => (text, place),
-    };
-    match rule_named(text) {
-        Some(rule) => Ok(rule),
-        None => Err(RowFault::Value { line, place }),
+    let word = rest.word();
+    rule_named(word.text()).ok_or(RowFault::Value { at: word.at() })
+}
+
+// The next words, those of a call.
+fn call_in(rest: &mut Rest, kind: Kind) -> Result<CallRow, RowFault>
+    requires counted { length (rest_of rest.old) + 1 ≡ count_of kind }
+    requires call { in_order Calls kind ≡ true }
+    ensures { Judged (wants 0 0 kind) (rest_of rest.old) rest.old.words.at.line result (λ call. (kind_of (rowed.Call call) ≡ kind) × (texts (rest_of rest.old) ≡ map written (fields_of (rowed.Call call))) × Ranged 0 0 (rowed.Call call)) }
+{
+    match kind {
+        Kind::Book => {
+            let [entrance, exit, count] = numbers(rest, [ANY; 3])?;
+            Ok(CallRow::Book {
+                entrance,
+                exit,
+                count,
+            })
+        }
+        Kind::Step => {
+            let [count] = numbers(rest, [Range { low: 1, ..ANY }])?;
+            Ok(CallRow::Step { count })
+        }
+        _ => Ok(CallRow::Show),
     }
 }
 
-// The row of this kind whose words behind the name are left of a line that ends at `end`.
-pub fn fields(
-    words: &mut Reader,
-    end: usize,
-    kind: Kind,
-    nodes: u16,
-    links: u16,
-) -> Result<Row, RowFault>
-    requires within { Within words.old.file.now end words.old.place }
-    requires counted { length (left_of words.old.file.now end words.old.place) + 1 ≡ count_of kind }
-    requires few { nodes < 256 }
-    ensures { Judged (wants nodes links kind) (left_of words.old.file.now end words.old.place) words.old.line result (λ row. (kind_of row ≡ kind) × (texts (left_of words.old.file.now end words.old.place) ≡ map written (fields_of row)) × Ranged nodes links row) }
+// The row of this kind whose words behind the name are are left.
+pub fn fields(rest: &mut Rest, kind: Kind, counts: Counts) -> Result<Row, RowFault>
+    requires counted { length (rest_of rest.old) + 1 ≡ count_of kind }
+    ensures { Judged (wants counts.nodes counts.links kind) (rest_of rest.old) rest.old.words.at.line result (λ row. (kind_of row ≡ kind) × (texts (rest_of rest.old) ≡ map written (fields_of row)) × Ranged counts.nodes counts.links row) }
 {
-    if kind == Kind::Merge {
-        return Ok(Row::Merge {
-            rule: rule_in(words)?,
-        });
-    }
-    let (ranges, count) = ranges_of(kind, nodes, links);
-    let n = numbers(words, end, &ranges[0..count])?;
-    Ok(row_of(kind, n))
+    let node = Range::up_to(counts.nodes);
+    let row = match kind {
+        Kind::Net => {
+            let [nodes, links] = numbers(rest, [NODES, LINKS])?;
+            Row::Net { nodes, links }
+        }
+        Kind::Link => {
+            let link = link_in(rest, counts)?;
+            Row::Link { link }
+        }
+        Kind::Route => {
+            let ranges = [node, node, Range::up_to(counts.links)];
+            let [node, exit, link] = numbers(rest, ranges)?;
+            Row::Route { node, exit, link }
+        }
+        Kind::Merge => {
+            let rule = rule_in(rest)?;
+            Row::Merge { rule }
+        }
+        Kind::Meter => {
+            let [node, rate, period] = numbers(rest, [node, FLOW, STEPS])?;
+            Row::Meter { node, rate, period }
+        }
+        Kind::Go => Row::Go,
+        Kind::Book | Kind::Step | Kind::Show => {
+            let call = call_in(rest, kind)?;
+            Row::Call { call }
+        }
+    };
+    Ok(row)
 }

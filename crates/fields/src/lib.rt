@@ -3,5 +3,6 @@
 
 pub mod fields;
 pub mod read;
+pub mod rest;
 
 pub use read::read_row;

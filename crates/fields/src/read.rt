@@ -1,49 +1,42 @@
 // Reads one row.
-ghost use Rattle.std.specs.Prelude.{◌≡◌, ◌<◌};
+ghost use Rattle.std.specs.Prelude.{◌≡◌};
 ghost use Rattle.rows.specs.Reading.{ReadRow};
+ghost use Rattle.words.specs.Tokens.{spot_of, at_of};
 ghost use Rattle.fields.specs.Taking.{Checked};
 
 use crate::fields::fields;
-use rows::kind::{is_in_order, kind_of, words_of};
-use rows::{Kind, Row, RowFault, Stage};
-use words::Reader;
+use crate::rest::Rest;
+use rows::{Counts, Kind, Row, RowFault, Stage};
+use words::{Reader, Word};
 
-// The kind of a row that has a name, stands in order and has its count of words.
-fn checked(
-    named: Option<Kind>,
-    stage: Stage,
-    count: usize,
-    line: usize,
-    place: usize,
-) -> Result<Kind, RowFault>
-    ensures { Checked named stage count line place result }
+// The kind of a row that has this first word, stands in order and has its count of words.
+fn checked(word: Word, stage: Stage, count: usize) -> Result<Kind, RowFault>
+    ensures { Checked (spot_of word.entry).text stage count (at_of word.entry) result }
 {
-    let Some(kind) = named else {
-        return Err(RowFault::Name { line, place });
-    };
-    if !is_in_order(stage, kind) {
-        return Err(RowFault::Order { line, place });
+    let at = word.at();
+    let kind = Kind::try_from(word.text()).map_err(|_| RowFault::Name { at })?;
+    if !stage.allows(kind) {
+        return Err(RowFault::Order { at });
     }
-    if count != words_of(kind) {
-        return Err(RowFault::Count { line, place });
+    if count != kind.words() {
+        return Err(RowFault::Count { at });
     }
     Ok(kind)
 }
 
+// A reader that is lent for writing keeps its file, which each contract here and in the crate above
+// says: a type can't say what a call leaves as it was.
 // The row that stands next; its nodes and links are those that the `net` row counts. A fault leaves
 // the reader where it was.
-pub fn read_row(reader: &mut Reader, stage: Stage, nodes: u16, links: u16) -> Result<Row, RowFault>
-    requires { nodes < 256 }
-    ensures read { ReadRow reader.old.file.now reader.old.place reader.old.line stage nodes links reader.new.place reader.new.line result }
+pub fn read_row(reader: &mut Reader, stage: Stage, counts: Counts) -> Result<Row, RowFault>
+    ensures read { ReadRow reader.old.file.now reader.old.at.place reader.old.at.line stage counts.nodes counts.links reader.new.at.place reader.new.at.line result }
     ensures kept { reader.new.file.now ≡ reader.old.file.now }
 {
-    let line = reader.line();
-    let place = reader.place();
     let end = reader.look()?;
     let count = reader.count();
     let mut words = *reader;
-    let kind = checked(kind_of(words.word()), stage, count, line, place)?;
-    let row = fields(&mut words, end, kind, nodes, links)?;
+    let kind = checked(words.word(), stage, count)?;
+    let row = fields(&mut Rest { words, end }, kind, counts)?;
     reader.next_line(end);
     Ok(row)
 }

@@ -1,11 +1,11 @@
 use Rattle.std.proofs.Common.{◌≡◌, map, length}
-use Rattle.fields.specs.Taking.{want}
+use Rattle.fields.specs.Taking.{want, rest_of}
 use Rattle.fields.proofs.Series.{Going}
 use Rattle.fields.proofs.fields.numbers.Given as goal
 
 abbrev pub invariant-loop-i : goal.invariant-loop-i
-invariant-loop-i l =
-    (l.words.file.now ≡ l.initial.words.file.now)
-    × (l.words.line ≡ l.initial.words.line)
-    × (length l.out ≡ 6)
-    × Going l.initial.words.file.now l.initial.words.place l.end (map want l.ranges) l.i l.out l.words.place
+invariant-loop-i g l = record {
+  same_line : l.rest.words.at.line ≡ l.initial.rest.words.at.line;
+  long : length l.out ≡ g.row.N;
+  going : Going (rest_of l.initial.rest) (map want l.range-items) l.i l.out (rest_of l.rest);
+}
