@@ -13,12 +13,12 @@ use Rattle.rows.specs.Reading.{Reads, line_checks, Refused as RefusedLine}
 use Rattle.rows.specs.Rows.{text_of}
 use Rattle.rows.specs.declared.kind.Stage.TheVariants.{Calls}
 use Rattle.rows.specs.declared.row.Row.{Row}
-use Rattle.rows.specs.declared.row.Row.TheVariants.{Net, Link, Route, Merge, Meter, Go, Book, Step, Show}
+use Rattle.rows.specs.declared.row.Row.TheVariants.{Net, Link, Route, Merge, Meter, Go, Call}
 use Rattle.rows.proofs.OneRow.{reads_pass, reads_once}
 use Rattle.reader.specs.Calls.{CallAnswer, call, ended, CallAnswers, row_of}
 use Rattle.reader.specs.Calls as calls
-use Rattle.reader.specs.declared.calls.CallRow.{CallRow}
-use Rattle.reader.specs.declared.calls.CallRow.TheVariants as called
+use Rattle.rows.specs.declared.row.CallRow.{CallRow}
+use Rattle.rows.specs.declared.row.CallRow.TheVariants as called
 use Rattle.reader.specs.Checks.{Sound, file_checks, NodeTold}
 use Rattle.reader.specs.Files.{Upto, RefusedAt, Refused, Answer, network, fault, Answers}
 use Rattle.reader.specs.Files as files
@@ -35,9 +35,7 @@ sound_small (Route n x k ∷ rows) s = sound_small rows s.0
 sound_small (Merge u ∷ rows) s = sound_small rows s.0
 sound_small (Meter n u t ∷ rows) s = sound_small rows s.0
 sound_small (Go ∷ rows) s = sound_small rows s.0
-sound_small (Book n x k ∷ rows) s = sound_small rows s.0
-sound_small (Step k ∷ rows) s = sound_small rows s.0
-sound_small (Show ∷ rows) s = sound_small rows s.0
+sound_small (Call c ∷ rows) s = sound_small rows s.0
 
 stands_both : (bytes : List ℕ) (p : ℕ) (s t : List ℕ) → Stands bytes p (s ++ t) → Stands bytes p s × Stands bytes (p + length s) t
 stands_both bytes p s t h =
@@ -202,12 +200,10 @@ one_answer bytes l₀ p₀ (fault t) (fault u) (inr a) (inr b) = ap fault (two_f
 
 -- a call, found again in its row
 abbrev call_in : Row → CallRow
-call_in r = elim r [ Net n l ↦ called.Show | Link k ↦ called.Show | Route n x k ↦ called.Show | Merge u ↦ called.Show | Meter n u t ↦ called.Show | Go ↦ called.Show | Book n x k ↦ called.Book n x k | Step k ↦ called.Step k | Show ↦ called.Show ]
+call_in r = elim r [ Net n l ↦ called.Show | Link k ↦ called.Show | Route n x k ↦ called.Show | Merge u ↦ called.Show | Meter n u t ↦ called.Show | Go ↦ called.Show | Call c ↦ c ]
 
 call_again : (c : CallRow) → call_in (row_of c) ≡ c
-call_again (called.Book e x k) = refl
-call_again (called.Step k) = refl
-call_again called.Show = refl
+call_again c = refl
 
 reads_in : (bytes : List ℕ) (p : ℕ) (r : Row) → Reads bytes p Calls 0 0 r → p < length bytes
 reads_in bytes p r h = omega (arith, stands_inside bytes p (text_of r) h.text (text_some r), text_some r)

@@ -9,7 +9,7 @@ use Rattle.rows.specs.declared.kind.Kind.TheVariants as kind
 use Rattle.rows.specs.declared.kind.Stage.{Stage}
 use Rattle.rows.specs.declared.kind.Stage.TheVariants.{Start, Links, Routes, Meters, Calls}
 use Rattle.rows.specs.declared.row.Row.{Row}
-use Rattle.rows.specs.declared.row.Row.TheVariants.{Net, Link, Route, Merge, Meter, Go, Book, Step, Show}
+use Rattle.rows.specs.declared.row.Row.TheVariants.{Net, Link, Route, Merge, Meter, Go, Call}
 use Rattle.reader.specs.Checks.{Sound, Follows, Twice}
 use Rattle.reader.specs.Laws.{links_in, AllFaithful}
 use Rattle.reader.specs.Said.{In, net_said, rule_said, meters_said, stage_of}
@@ -18,9 +18,6 @@ use Rattle.reader.proofs.Members.{net_first, first_row, start_only, meter_in, ro
 -- no second route or meter stands behind the first
 once : (r : Row) (rows : List Row) → Follows rows r → Twice rows r → ⊥
 once r rows f h = (f.passes 0).1.1.1.0 0 (refl, h)
-
-no_links : (rows : List Row) → rows ≡ [] → (net_said rows).links ≡ length (links_in rows)
-no_links rows e = subst (λ (x : List Row). (net_said x).links ≡ length (links_in x)) (sym e) refl
 
 none_in : (rows : List Row) → rows ≡ [] → 0 ≡ length (links_in rows)
 none_in rows e = sym (ap (λ (x : List Row). length (links_in x)) e)
@@ -33,9 +30,7 @@ links_counted (Route n x k ∷ rows) s = links_counted rows s.0
 links_counted (Merge u ∷ rows) s = links_counted rows s.0
 links_counted (Meter n u t ∷ rows) s = links_counted rows s.0
 links_counted (Go ∷ rows) s = links_counted rows s.0
-links_counted (Book n x k ∷ rows) s = links_counted rows s.0
-links_counted (Step k ∷ rows) s = links_counted rows s.0
-links_counted (Show ∷ rows) s = links_counted rows s.0
+links_counted (Call c ∷ rows) s = links_counted rows s.0
 
 pub link_placed : (rows : List Row) → Sound rows → (i : ℕ) → i < length (links_in rows) → (net_said rows).link i ≡ get_or (links_in rows) i blank_link
 link_placed [] s i h = refl
@@ -52,9 +47,7 @@ link_placed (Route n x k ∷ rows) s i h = link_placed rows s.0 i h
 link_placed (Merge u ∷ rows) s i h = link_placed rows s.0 i h
 link_placed (Meter n u t ∷ rows) s i h = link_placed rows s.0 i h
 link_placed (Go ∷ rows) s i h = link_placed rows s.0 i h
-link_placed (Book n x k ∷ rows) s i h = link_placed rows s.0 i h
-link_placed (Step k ∷ rows) s i h = link_placed rows s.0 i h
-link_placed (Show ∷ rows) s i h = link_placed rows s.0 i h
+link_placed (Call c ∷ rows) s i h = link_placed rows s.0 i h
 
 nodes_said : (rows : List Row) (n l : ℕ) → Sound rows → In (Net n l) rows → (net_said rows).nodes ≡ n
 nodes_said [] n l s h = absurd h
@@ -64,9 +57,7 @@ nodes_said (Route m x k ∷ rows) n l s h = ⊎_elim (λ is. absurd (omega (arit
 nodes_said (Merge u ∷ rows) n l s h = ⊎_elim (λ is. absurd (omega (arith, ap tag_of is))) (λ is. nodes_said rows n l s.0 is) h
 nodes_said (Meter m u t ∷ rows) n l s h = ⊎_elim (λ is. absurd (omega (arith, ap tag_of is))) (λ is. nodes_said rows n l s.0 is) h
 nodes_said (Go ∷ rows) n l s h = ⊎_elim (λ is. absurd (omega (arith, ap tag_of is))) (λ is. nodes_said rows n l s.0 is) h
-nodes_said (Book m x k ∷ rows) n l s h = ⊎_elim (λ is. absurd (omega (arith, ap tag_of is))) (λ is. nodes_said rows n l s.0 is) h
-nodes_said (Step k ∷ rows) n l s h = ⊎_elim (λ is. absurd (omega (arith, ap tag_of is))) (λ is. nodes_said rows n l s.0 is) h
-nodes_said (Show ∷ rows) n l s h = ⊎_elim (λ is. absurd (omega (arith, ap tag_of is))) (λ is. nodes_said rows n l s.0 is) h
+nodes_said (Call c ∷ rows) n l s h = ⊎_elim (λ is. absurd (omega (arith, ap tag_of is))) (λ is. nodes_said rows n l s.0 is) h
 
 meter_said : (rows : List Row) (m v w : ℕ) → Sound rows → In (Meter m v w) rows → meters_said rows m ≡ Some (v, w)
 meter_said [] m v w s h = absurd h
@@ -82,9 +73,7 @@ meter_said (Meter n u t ∷ rows) m v w s h =
     cond-false (eqb m n) (Some (u, t)) (meters_said rows m) (ne_eqb m n ne) ∙ meter_said rows m v w s.0 is)
     h
 meter_said (Go ∷ rows) m v w s h = ⊎_elim (λ is. absurd (omega (arith, ap tag_of is))) (λ is. meter_said rows m v w s.0 is) h
-meter_said (Book n x k ∷ rows) m v w s h = ⊎_elim (λ is. absurd (omega (arith, ap tag_of is))) (λ is. meter_said rows m v w s.0 is) h
-meter_said (Step k ∷ rows) m v w s h = ⊎_elim (λ is. absurd (omega (arith, ap tag_of is))) (λ is. meter_said rows m v w s.0 is) h
-meter_said (Show ∷ rows) m v w s h = ⊎_elim (λ is. absurd (omega (arith, ap tag_of is))) (λ is. meter_said rows m v w s.0 is) h
+meter_said (Call c ∷ rows) m v w s h = ⊎_elim (λ is. absurd (omega (arith, ap tag_of is))) (λ is. meter_said rows m v w s.0 is) h
 
 route_said : (rows : List Row) (m y j : ℕ) → Sound rows → In (Route m y (j + 1)) rows → (net_said rows).route m y ≡ Some j
 route_said [] m y j s h = absurd h
@@ -104,9 +93,7 @@ route_said (Route n x k ∷ rows) m y j s h =
 route_said (Merge u ∷ rows) m y j s h = ⊎_elim (λ is. absurd (omega (arith, ap tag_of is))) (λ is. route_said rows m y j s.0 is) h
 route_said (Meter n u t ∷ rows) m y j s h = ⊎_elim (λ is. absurd (omega (arith, ap tag_of is))) (λ is. route_said rows m y j s.0 is) h
 route_said (Go ∷ rows) m y j s h = ⊎_elim (λ is. absurd (omega (arith, ap tag_of is))) (λ is. route_said rows m y j s.0 is) h
-route_said (Book n x k ∷ rows) m y j s h = ⊎_elim (λ is. absurd (omega (arith, ap tag_of is))) (λ is. route_said rows m y j s.0 is) h
-route_said (Step k ∷ rows) m y j s h = ⊎_elim (λ is. absurd (omega (arith, ap tag_of is))) (λ is. route_said rows m y j s.0 is) h
-route_said (Show ∷ rows) m y j s h = ⊎_elim (λ is. absurd (omega (arith, ap tag_of is))) (λ is. route_said rows m y j s.0 is) h
+route_said (Call c ∷ rows) m y j s h = ⊎_elim (λ is. absurd (omega (arith, ap tag_of is))) (λ is. route_said rows m y j s.0 is) h
 
 -- before a `merge` row there is none
 merge_stage : (s : Stage) → in_order s kind.Merge ≡ true → s ≡ Routes
@@ -150,12 +137,10 @@ late (Route n x k ∷ rows) u s h = ⊎_elim (λ is. absurd (omega (arith, ap ta
 late (Merge v ∷ rows) u s h = inl refl
 late (Meter n v t ∷ rows) u s h = inl refl
 late (Go ∷ rows) u s h = inr refl
-late (Book n x k ∷ rows) u s h = inr refl
-late (Step k ∷ rows) u s h = inr refl
-late (Show ∷ rows) u s h = inr refl
+late (Call c ∷ rows) u s h = inr refl
 
 abbrev rule_in : Choice → Row → Choice
-rule_in d r = elim r [ Net n l ↦ d | Link k ↦ d | Route n x k ↦ d | Merge u ↦ u | Meter n u t ↦ d | Go ↦ d | Book n x k ↦ d | Step k ↦ d | Show ↦ d ]
+rule_in d r = elim r [ Net n l ↦ d | Link k ↦ d | Route n x k ↦ d | Merge u ↦ u | Meter n u t ↦ d | Go ↦ d | Call c ↦ d ]
 
 rule_as_said : (rows : List Row) (u : Choice) → Sound rows → In (Merge u) rows → rule_said rows ≡ u
 rule_as_said [] u s h = absurd h
@@ -165,9 +150,7 @@ rule_as_said (Route n x k ∷ rows) u s h = ⊎_elim (λ is. absurd (omega (arit
 rule_as_said (Merge v ∷ rows) u s h = ⊎_elim (λ is. sym (ap (rule_in u) is)) (λ is. absurd (not_late (stage_of rows) (late rows u s.0 is) (inr (inr (merge_stage (stage_of rows) s.1.order))))) h
 rule_as_said (Meter n v t ∷ rows) u s h = ⊎_elim (λ is. absurd (omega (arith, ap tag_of is))) (λ is. rule_as_said rows u s.0 is) h
 rule_as_said (Go ∷ rows) u s h = ⊎_elim (λ is. absurd (omega (arith, ap tag_of is))) (λ is. rule_as_said rows u s.0 is) h
-rule_as_said (Book n x k ∷ rows) u s h = ⊎_elim (λ is. absurd (omega (arith, ap tag_of is))) (λ is. rule_as_said rows u s.0 is) h
-rule_as_said (Step k ∷ rows) u s h = ⊎_elim (λ is. absurd (omega (arith, ap tag_of is))) (λ is. rule_as_said rows u s.0 is) h
-rule_as_said (Show ∷ rows) u s h = ⊎_elim (λ is. absurd (omega (arith, ap tag_of is))) (λ is. rule_as_said rows u s.0 is) h
+rule_as_said (Call c ∷ rows) u s h = ⊎_elim (λ is. absurd (omega (arith, ap tag_of is))) (λ is. rule_as_said rows u s.0 is) h
 
 pub all_faithful : AllFaithful
 all_faithful rows s = record {

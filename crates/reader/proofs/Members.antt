@@ -6,7 +6,7 @@ use Rattle.rows.specs.declared.kind.Kind.TheVariants as kind
 use Rattle.rows.specs.declared.kind.Stage.{Stage}
 use Rattle.rows.specs.declared.kind.Stage.TheVariants.{Start, Links, Routes, Meters, Calls}
 use Rattle.rows.specs.declared.row.Row.{Row}
-use Rattle.rows.specs.declared.row.Row.TheVariants.{Net, Link, Route, Merge, Meter, Go, Book, Step, Show}
+use Rattle.rows.specs.declared.row.Row.TheVariants.{Net, Link, Route, Merge, Meter, Go, Call}
 use Rattle.reader.specs.Checks.{Sound, Follows}
 use Rattle.reader.specs.Said.{In, net_said, meters_said, stage_of}
 
@@ -30,9 +30,7 @@ first_row (Route n x k ∷ rows) e = let z : ◌≡◌ {A = ℕ} 0 1 = cc in abs
 first_row (Merge u ∷ rows) e = let z : ◌≡◌ {A = ℕ} 0 1 = cc in absurd (omega arith)
 first_row (Meter n u t ∷ rows) e = let z : ◌≡◌ {A = ℕ} 0 1 = cc in absurd (omega arith)
 first_row (Go ∷ rows) e = let z : ◌≡◌ {A = ℕ} 0 1 = cc in absurd (omega arith)
-first_row (Book n x k ∷ rows) e = let z : ◌≡◌ {A = ℕ} 0 1 = cc in absurd (omega arith)
-first_row (Step k ∷ rows) e = let z : ◌≡◌ {A = ℕ} 0 1 = cc in absurd (omega arith)
-first_row (Show ∷ rows) e = let z : ◌≡◌ {A = ℕ} 0 1 = cc in absurd (omega arith)
+first_row (Call c ∷ rows) e = let z : ◌≡◌ {A = ℕ} 0 1 = cc in absurd (omega arith)
 
 -- no row stands ahead of `net`
 pub net_first : (r : Row) (n l : ℕ) (rows : List Row) → Follows rows (Net n l) → In r rows → ⊥
@@ -59,22 +57,20 @@ meter_in (Route n x k ∷ rows) m v s e = inr (meter_in rows m v s e)
 meter_in (Merge u ∷ rows) m v s e = inr (meter_in rows m v s e)
 meter_in (Meter n u t ∷ rows) m v s e = step_meter (eqb m n) m n u t v s (meters_said rows m) rows (eqb-true m n) (meter_in rows m v s) e
 meter_in (Go ∷ rows) m v s e = inr (meter_in rows m v s e)
-meter_in (Book n x k ∷ rows) m v s e = inr (meter_in rows m v s e)
-meter_in (Step k ∷ rows) m v s e = inr (meter_in rows m v s e)
-meter_in (Show ∷ rows) m v s e = inr (meter_in rows m v s e)
+meter_in (Call c ∷ rows) m v s e = inr (meter_in rows m v s e)
 
 abbrev pub node_of : Row → ℕ
-node_of r = elim r [ Net n l ↦ 0 | Link k ↦ 0 | Route n x k ↦ n | Merge u ↦ 0 | Meter n u t ↦ n | Go ↦ 0 | Book n x k ↦ 0 | Step k ↦ 0 | Show ↦ 0 ]
+node_of r = elim r [ Net n l ↦ 0 | Link k ↦ 0 | Route n x k ↦ n | Merge u ↦ 0 | Meter n u t ↦ n | Go ↦ 0 | Call c ↦ 0 ]
 
 abbrev pub exit_of : Row → ℕ
-exit_of r = elim r [ Net n l ↦ 0 | Link k ↦ 0 | Route n x k ↦ x | Merge u ↦ 0 | Meter n u t ↦ u | Go ↦ 0 | Book n x k ↦ 0 | Step k ↦ 0 | Show ↦ 0 ]
+exit_of r = elim r [ Net n l ↦ 0 | Link k ↦ 0 | Route n x k ↦ x | Merge u ↦ 0 | Meter n u t ↦ u | Go ↦ 0 | Call c ↦ 0 ]
 
 abbrev pub last_of : Row → ℕ
-last_of r = elim r [ Net n l ↦ 0 | Link k ↦ 0 | Route n x k ↦ k | Merge u ↦ 0 | Meter n u t ↦ t | Go ↦ 0 | Book n x k ↦ 0 | Step k ↦ 0 | Show ↦ 0 ]
+last_of r = elim r [ Net n l ↦ 0 | Link k ↦ 0 | Route n x k ↦ k | Merge u ↦ 0 | Meter n u t ↦ t | Go ↦ 0 | Call c ↦ 0 ]
 
 -- the tags of rows, to tell them apart
 abbrev pub tag_of : Row → ℕ
-tag_of r = elim r [ Net n l ↦ 0 | Link k ↦ 1 | Route n x k ↦ 2 | Merge u ↦ 3 | Meter n u t ↦ 4 | Go ↦ 5 | Book n x k ↦ 6 | Step k ↦ 7 | Show ↦ 8 ]
+tag_of r = elim r [ Net n l ↦ 0 | Link k ↦ 1 | Route n x k ↦ 2 | Merge u ↦ 3 | Meter n u t ↦ 4 | Go ↦ 5 | Call c ↦ 6 ]
 
 pub meter_some : (rows : List Row) (m v s : ℕ) → In (Meter m v s) rows → meters_said rows m ≡ None → ⊥
 meter_some [] m v s h e = h
@@ -90,9 +86,7 @@ meter_some (Meter n u t ∷ rows) m v s h e =
     ⊎_elim (λ is. both_ways (eqb m n) no' (eq-eqb m n (ap node_of is))) (λ is. meter_some rows m v s is rest) h)
     (cases_Bool (eqb m n))
 meter_some (Go ∷ rows) m v s h e = ⊎_elim (λ is. omega (arith, ap tag_of is)) (λ is. meter_some rows m v s is e) h
-meter_some (Book n x k ∷ rows) m v s h e = ⊎_elim (λ is. omega (arith, ap tag_of is)) (λ is. meter_some rows m v s is e) h
-meter_some (Step k ∷ rows) m v s h e = ⊎_elim (λ is. omega (arith, ap tag_of is)) (λ is. meter_some rows m v s is e) h
-meter_some (Show ∷ rows) m v s h e = ⊎_elim (λ is. omega (arith, ap tag_of is)) (λ is. meter_some rows m v s is e) h
+meter_some (Call c ∷ rows) m v s h e = ⊎_elim (λ is. omega (arith, ap tag_of is)) (λ is. meter_some rows m v s is e) h
 
 step_route : (b : Bool) (m y n x k j : ℕ) (o : Option ℕ) (rows : List Row) → 1 ≤ k → (b ≡ true → (m ≡ n) × (y ≡ x)) → (o ≡ Some j → In (Route m y (j + 1)) rows) → cond b (Some (k - 1)) o ≡ Some j → In (Route m y (j + 1)) (Route n x k ∷ rows)
 step_route true m y n x k j o rows low is rec e =
@@ -109,9 +103,7 @@ route_in (Route n x k ∷ rows) m y j s e = step_route (eqb m n && eqb y x) m y 
 route_in (Merge u ∷ rows) m y j s e = inr (route_in rows m y j s.0 e)
 route_in (Meter n u t ∷ rows) m y j s e = inr (route_in rows m y j s.0 e)
 route_in (Go ∷ rows) m y j s e = inr (route_in rows m y j s.0 e)
-route_in (Book n x k ∷ rows) m y j s e = inr (route_in rows m y j s.0 e)
-route_in (Step k ∷ rows) m y j s e = inr (route_in rows m y j s.0 e)
-route_in (Show ∷ rows) m y j s e = inr (route_in rows m y j s.0 e)
+route_in (Call c ∷ rows) m y j s e = inr (route_in rows m y j s.0 e)
 
 pub route_some : (rows : List Row) (m y j : ℕ) → Sound rows → In (Route m y j) rows → (net_said rows).route m y ≡ None → ⊥
 route_some [] m y j s h e = h
@@ -127,6 +119,4 @@ route_some (Route n x k ∷ rows) m y j s h e =
 route_some (Merge u ∷ rows) m y j s h e = ⊎_elim (λ is. omega (arith, ap tag_of is)) (λ is. route_some rows m y j s.0 is e) h
 route_some (Meter n u t ∷ rows) m y j s h e = ⊎_elim (λ is. omega (arith, ap tag_of is)) (λ is. route_some rows m y j s.0 is e) h
 route_some (Go ∷ rows) m y j s h e = ⊎_elim (λ is. omega (arith, ap tag_of is)) (λ is. route_some rows m y j s.0 is e) h
-route_some (Book n x k ∷ rows) m y j s h e = ⊎_elim (λ is. omega (arith, ap tag_of is)) (λ is. route_some rows m y j s.0 is e) h
-route_some (Step k ∷ rows) m y j s h e = ⊎_elim (λ is. omega (arith, ap tag_of is)) (λ is. route_some rows m y j s.0 is e) h
-route_some (Show ∷ rows) m y j s h e = ⊎_elim (λ is. omega (arith, ap tag_of is)) (λ is. route_some rows m y j s.0 is e) h
+route_some (Call c ∷ rows) m y j s h e = ⊎_elim (λ is. omega (arith, ap tag_of is)) (λ is. route_some rows m y j s.0 is e) h

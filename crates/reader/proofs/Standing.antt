@@ -4,6 +4,7 @@ use Rattle.std.proofs.lemmas.List.{append_assoc, take-append-drop, take_at, leng
 use Rattle.words.specs.Tables.{First, Refuses, Passes}
 use Rattle.words.specs.Texts.{Stands, spaced}
 use Rattle.words.specs.declared.fault.Told.{Told}
+use Rattle.words.specs.declared.position.Position.{Position}
 use Rattle.rows.specs.Reading.{Reads, Refused as RefusedLine}
 use Rattle.rows.specs.Rows.{text_of, spelled}
 use Rattle.rows.specs.declared.kind.Stage.{Stage}
@@ -71,6 +72,11 @@ module _ (file : List ℕ) (l₀ p₀ l p : ℕ) (stage : Stage) (nodes links : 
       links = k;
       says = says;
     }
+
+-- what the reader found no row in is its own file f
+pub refused_in : (file f : List ℕ) (l₀ p₀ : ℕ) (a : Position) (stage : Stage) (nodes links : ℕ) (s : Said) → f ≡ file → Got file l₀ p₀ a.line a.place stage nodes links s → (stage ≡ Calls → ⊥) → (t : Told) → NoRow f a.place a.line stage nodes links t → Refused file l₀ p₀ t
+refused_in file f l₀ p₀ a stage nodes links s same g going t none =
+    refused_line file l₀ p₀ a.line a.place stage nodes links s g going t (subst (λ (x : List ℕ). NoRow x a.place a.line stage nodes links t) same none)
 
 -- the row r' was read of the reader's own file f
 pub step_as : (file f : List ℕ) (p l : ℕ) (stage : Stage) (nodes links : ℕ) (r r' : Row) (p' l' : ℕ) → f ≡ file → r' ≡ r → Reads f p stage nodes links r' × (p' ≡ p + length (text_of r')) × (l' ≡ l + 1) → Reads file p stage nodes links r × (p' ≡ p + length (text_of r)) × (l' ≡ l + 1)

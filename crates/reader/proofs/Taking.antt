@@ -1,8 +1,9 @@
 -- What each row of the head adds, or why it is refused. Assumes nothing.
 use Rattle.std.proofs.Common.{◌≡◌, ℕ, ◌+◌, ◌-◌, ◌<◌, ◌≤◌, Bool, true, false, cond, ◌&&◌, eqb, ltb, leb, ◌⊎◌, List, [], ◌∷◌, length, is_some, Some, None, Option, sym, refl, ap, ◌∙◌, subst, inl, inr, arith}
 use Rattle.std.proofs.lemmas.Bool.{eq-eqb, ne_eqb, cond-true, cond-false, and_from, lt-ltb, le-leb, both_ways}
-use Rattle.network.specs.Drafts.{bare_net, with_link, with_route, draft_of, LowestOdd, RouteFits, IsMerge}
-use Rattle.network.specs.Drafts as drafts
+use Rattle.words.specs.Faults.{position}
+use Rattle.words.specs.declared.position.Position.{Position}
+use Rattle.network.specs.Drafts.{bare_net, with_link, with_route, LowestOdd, RouteFits, IsMerge}
 use Rattle.network.specs.Net as network
 use Rattle.network.specs.Nets.{net_of}
 use Rattle.network.specs.declared.network.Network.{Network}
@@ -15,7 +16,6 @@ use Rattle.merge.specs.declared.gate.Gate.{Gate}
 use Rattle.merge.specs.declared.gates.Gates.{Gates}
 use Rattle.rows.specs.Reading.{Reads}
 use Rattle.rows.specs.Rows.{text_of}
-use Rattle.rows.specs.Wants.{Ranged}
 use Rattle.rows.specs.declared.kind.Stage.{Stage}
 use Rattle.rows.specs.declared.kind.Stage.TheVariants.{Start, Links, Routes, Meters, Calls}
 use Rattle.rows.specs.declared.row.Row.TheVariants.{Net, Link, Route, Merge, Meter, Go}
@@ -23,12 +23,12 @@ use Rattle.reader.specs.Checks.{Odd}
 use Rattle.reader.specs.Faults.{filed, file_told}
 use Rattle.reader.specs.Files.{Upto, Refused, numbers_of}
 use Rattle.reader.specs.Files as files
-use Rattle.reader.specs.Heads.{Got, bare, said, meters_of}
+use Rattle.reader.specs.Heads.{Got, LinkRow, NoRow, bare, said, meters_of}
 use Rattle.reader.specs.Said.{net_said, wanted, Said, said_by, meters_said}
 use Rattle.reader.specs.declared.fault.FileFault.{FileFault}
 use Rattle.reader.specs.declared.fault.FileFault.TheVariants as fault
 use Rattle.reader.proofs.Members.{meter_in, meter_some, route_in, route_some}
-use Rattle.reader.proofs.Standing.{upto_none, upto_more, at_start, refused_row, got_more, goes_on, reads'}
+use Rattle.reader.proofs.Standing.{upto_none, upto_more, at_start, refused_in, refused_row, got_more, goes_on, reads'}
 
 pub got_none : (file : List ℕ) (l p : ℕ) → Got file l p l p Start 0 0 (said_by [])
 got_none file l p = record { rows = []; upto = upto_none file l p; stage = refl; nodes = refl; links = refl; says = refl }
@@ -65,22 +65,6 @@ net_on file l p l' p' n k reads on next = (
   },
 )
 
-pub link_ranged : (nodes links n : ℕ) (k : LinkData) → n ≡ nodes → Ranged nodes links (Link k) → drafts.Ranged n k
-link_ranged nodes links n k e a = subst (λ m. drafts.Ranged m k) (sym e) (record {
-  from_least = a.0.0;
-  from_most = a.0.1;
-  to_least = a.1.0.0;
-  to_most = a.1.0.1;
-  free_least = a.1.1.0.0;
-  free_most = a.1.1.0.1;
-  wave_least = a.1.1.1.0.0;
-  wave_most = a.1.1.1.0.1;
-  capacity_least = a.1.1.1.1.0.0;
-  capacity_most = a.1.1.1.1.0.1;
-  storage_least = a.1.1.1.1.1.0.0;
-  storage_most = a.1.1.1.1.1.0.1;
-})
-
 module _ (file : List ℕ) (l₀ p₀ l p nodes links : ℕ) (net : network.Net) (k : LinkData) (g : Got file l₀ p₀ l p Links nodes links (bare net)) (reads : Reads file p Links nodes links (Link k)) where
   net_is : net_said g.rows ≡ net
   net_is = ap (λ (x : Said). x.net) g.says
@@ -91,9 +75,9 @@ module _ (file : List ℕ) (l₀ p₀ l p nodes links : ℕ) (net : network.Net)
   count_is : (net_said g.rows).links ≡ net.links
   count_is = ap (λ (x : network.Net). x.links) net_is
 
-  pub link_down : (f : FileFault) (a b : ℕ) → f ≡ fault.Link a b → a ≡ l → b ≡ p → k.to ≤ k.from → Refused file l₀ p₀ (file_told f)
-  link_down f a b e la pb down =
-      subst (λ (x : FileFault). Refused file l₀ p₀ (file_told x)) (sym (e ∙ (λ i. fault.Link (la i) (pb i))))
+  pub link_down : (f : FileFault) (a : Position) → f ≡ fault.Link a → a ≡ position l p → k.to ≤ k.from → Refused file l₀ p₀ (file_told f)
+  link_down f a e at down =
+      subst (λ (x : FileFault). Refused file l₀ p₀ (file_told x)) (sym (e ∙ ap fault.Link at))
       (refused_row file l₀ p₀ l p Links nodes links (bare net) g not_links (Link k) reads (filed 21 l p 0)
       (inl (record { number = refl; layer = refl; first = at_start p _ down })) refl
       (record { odd = λ z. absurd (omega arith); other = λ _. refl }))
@@ -120,10 +104,10 @@ module _ (file : List ℕ) (l₀ p₀ l p nodes links : ℕ) (net : network.Net)
         (λ q. ((λ j h. let d = h.1 in omega arith), ((λ j h. no-odd h.2.0 h.2.1), ((λ j h. h.1), ((λ j h. h.1), ((λ j h. h.1), tt)))))) on next
         (cond-true (eqb ((net_said g.rows).links + 1) (wanted g.rows)) Routes Links (eq-eqb _ _ closes)) g.nodes g.links (says_more (net_of n) (is ∙ e))
 
-    pub link_odd : (f : FileFault) (a b m : ℕ) → f ≡ fault.Node a b m → a ≡ l → b ≡ p → LowestOdd net' m → Refused file l₀ p₀ (file_told f)
-    link_odd f a b m is la pb odd =
+    pub link_odd : (f : FileFault) (a : Position) (m : ℕ) → f ≡ fault.Node a m → a ≡ position l p → LowestOdd net' m → Refused file l₀ p₀ (file_told f)
+    link_odd f a m is at odd =
         let odd' : LowestOdd (net_said (Link k ∷ g.rows)) m = subst (λ (x : network.Net). LowestOdd x m) (e ∙ sym grown_is) odd in
-        subst (λ (x : FileFault). Refused file l₀ p₀ (file_told x)) (sym (is ∙ (λ i. fault.Node (la i) (pb i) m)))
+        subst (λ (x : FileFault). Refused file l₀ p₀ (file_told x)) (sym (is ∙ ap (λ (x : Position). fault.Node x m) at))
         (refused_row file l₀ p₀ l p Links nodes links (bare net) g not_links (Link k) reads (filed 22 l p m)
         (inr (
           (λ j h. let d = h.1 in omega arith),
@@ -134,6 +118,16 @@ module _ (file : List ℕ) (l₀ p₀ l p nodes links : ℕ) (net : network.Net)
           }),
         )) refl
         (record { odd = λ _. odd'; other = λ ne. absurd (ne refl) }))
+
+-- the row of a link, in an equal file
+pub link_row : (file f : List ℕ) (a : Position) (nodes links : ℕ) (k : LinkData) (a' : Position) → f ≡ file → LinkRow f a nodes links k a' → LinkRow file a nodes links k a'
+link_row file f a nodes links k a' same r = subst (λ (x : List ℕ). LinkRow x a nodes links k a') same r
+
+-- no link row, or one that runs backward
+pub link_refused : (file f : List ℕ) (l₀ p₀ : ℕ) (a : Position) (nodes links : ℕ) (net : network.Net) (a' : Position) → f ≡ file → Got file l₀ p₀ a.line a.place Links nodes links (bare net) → (x : FileFault) → NoRow f a.place a.line Links nodes links (file_told x) ⊎ ((k : LinkData) × LinkRow f a nodes links k a' × (x ≡ fault.Link a) × (k.to ≤ k.from)) → Refused file l₀ p₀ (file_told x)
+link_refused file f l₀ p₀ a nodes links net a' same g x (inl none) = refused_in file f l₀ p₀ a Links nodes links (bare net) same g not_links (file_told x) none
+link_refused file f l₀ p₀ a nodes links net a' same g x (inr bad) =
+    link_down file l₀ p₀ a.line a.place nodes links net bad.0 g (link_row file f a nodes links bad.0 a' same bad.1).0 x a bad.2 refl bad.3
 
 module _ (file : List ℕ) (l₀ p₀ l p nodes links : ℕ) (net : Network) (g : Got file l₀ p₀ l p Routes nodes links (bare (net_of net))) where
   routes_is : net_said g.rows ≡ net_of net
@@ -146,17 +140,17 @@ module _ (file : List ℕ) (l₀ p₀ l p nodes links : ℕ) (net : Network) (g 
     fits_there : RouteFits (net_of net) n x k → RouteFits (net_said g.rows) n x k
     fits_there = subst (λ (y : network.Net). RouteFits y n x k) (sym routes_is)
 
-    pub route_misfit : (f : FileFault) (a b : ℕ) → f ≡ fault.Route a b → a ≡ l → b ≡ p → (RouteFits (net_of net) n x k → ⊥) → Refused file l₀ p₀ (file_told f)
-    route_misfit f a b e la pb bad =
-        subst (λ (y : FileFault). Refused file l₀ p₀ (file_told y)) (sym (e ∙ (λ i. fault.Route (la i) (pb i))))
+    pub route_misfit : (f : FileFault) (a : Position) → f ≡ fault.Route a → a ≡ position l p → (RouteFits (net_of net) n x k → ⊥) → Refused file l₀ p₀ (file_told f)
+    route_misfit f a e at bad =
+        subst (λ (y : FileFault). Refused file l₀ p₀ (file_told y)) (sym (e ∙ ap fault.Route at))
         (refused_row file l₀ p₀ l p Routes nodes links (bare (net_of net)) g not_routes (Route n x k) reads (filed 23 l p 0)
         (inr ((λ j h. h.1), inr ((λ j h. h.1), inl (record { number = refl; layer = refl; first = at_start p _ (λ fits. bad (fits_back fits)) })))) refl
         (record { odd = λ z. absurd (omega arith); other = λ _. refl }))
 
-    pub route_second : (f : FileFault) (a b j : ℕ) → f ≡ fault.Again a b → a ≡ l → b ≡ p → RouteFits (net_of net) n x k → (net_of net).route n x ≡ Some j → Refused file l₀ p₀ (file_told f)
-    route_second f a b j e la pb fits there =
+    pub route_second : (f : FileFault) (a : Position) (j : ℕ) → f ≡ fault.Again a → a ≡ position l p → RouteFits (net_of net) n x k → (net_of net).route n x ≡ Some j → Refused file l₀ p₀ (file_told f)
+    route_second f a j e at fits there =
         let in' = route_in g.rows n x j g.upto.sound (ap (λ (y : network.Net). y.route n x) routes_is ∙ there) in
-        subst (λ (y : FileFault). Refused file l₀ p₀ (file_told y)) (sym (e ∙ (λ i. fault.Again (la i) (pb i))))
+        subst (λ (y : FileFault). Refused file l₀ p₀ (file_told y)) (sym (e ∙ ap fault.Again at))
         (refused_row file l₀ p₀ l p Routes nodes links (bare (net_of net)) g not_routes (Route n x k) reads (filed 24 l p 0)
         (inr ((λ j h. h.1), inr ((λ j h. h.1), inr ((λ j h. h.1 (fits_there fits)), inl (record { number = refl; layer = refl; first = at_start p _ (j + 1, in') }))))) refl
         (record { odd = λ z. absurd (omega arith); other = λ _. refl }))
@@ -183,17 +177,17 @@ module _ (file : List ℕ) (l₀ p₀ l p nodes links : ℕ) (net : Network) (ru
   table_is m = ap (λ (x : Said). x.meters m) g.says
 
   module _ (n u t : ℕ) (reads : Reads file p Meters nodes links (Meter n u t)) where
-    pub meter_second : (f : FileFault) (a b v s : ℕ) → f ≡ fault.Again a b → a ≡ l → b ≡ p → meters_of gates n ≡ Some (v, s) → Refused file l₀ p₀ (file_told f)
-    meter_second f a b v s e la pb there =
+    pub meter_second : (f : FileFault) (a : Position) (v s : ℕ) → f ≡ fault.Again a → a ≡ position l p → meters_of gates n ≡ Some (v, s) → Refused file l₀ p₀ (file_told f)
+    meter_second f a v s e at there =
         let in' = meter_in g.rows n v s (table_is n ∙ there) in
-        subst (λ (y : FileFault). Refused file l₀ p₀ (file_told y)) (sym (e ∙ (λ i. fault.Again (la i) (pb i))))
+        subst (λ (y : FileFault). Refused file l₀ p₀ (file_told y)) (sym (e ∙ ap fault.Again at))
         (refused_row file l₀ p₀ l p Meters nodes links (said (net_of net) rule (meters_of gates)) g not_meters (Meter n u t) reads (filed 24 l p 0)
         (inr ((λ j h. h.1), inr ((λ j h. h.1), inr ((λ j h. h.1), inl (record { number = refl; layer = refl; first = at_start p _ (v, s, in') }))))) refl
         (record { odd = λ z. absurd (omega arith); other = λ _. refl }))
 
-    pub meter_misplaced : (f : FileFault) (a b : ℕ) → f ≡ fault.Meter a b → a ≡ l → b ≡ p → meters_of gates n ≡ None → (IsMerge (net_of net) n → ⊥) → Refused file l₀ p₀ (file_told f)
-    meter_misplaced f a b e la pb none bad =
-        subst (λ (y : FileFault). Refused file l₀ p₀ (file_told y)) (sym (e ∙ (λ i. fault.Meter (la i) (pb i))))
+    pub meter_misplaced : (f : FileFault) (a : Position) → f ≡ fault.Meter a → a ≡ position l p → meters_of gates n ≡ None → (IsMerge (net_of net) n → ⊥) → Refused file l₀ p₀ (file_told f)
+    meter_misplaced f a e at none bad =
+        subst (λ (y : FileFault). Refused file l₀ p₀ (file_told y)) (sym (e ∙ ap fault.Meter at))
         (refused_row file l₀ p₀ l p Meters nodes links (said (net_of net) rule (meters_of gates)) g not_meters (Meter n u t) reads (filed 25 l p 0)
         (inr ((λ j h. h.1), inr ((λ j h. h.1), inr ((λ j h. h.1), inr ((λ j h. meter_some g.rows n h.1.0 h.1.1 h.1.2 (table_is n ∙ none)), inl (record { number = refl; layer = refl; first = at_start p _ (λ m. bad (subst (λ (y : network.Net). IsMerge y n) meters_is m)) })))))) refl
         (record { odd = λ z. absurd (omega arith); other = λ _. refl }))
@@ -205,12 +199,12 @@ module _ (file : List ℕ) (l₀ p₀ l p nodes links : ℕ) (net : Network) (ru
         refl g.nodes g.links
         (ap (λ (y : Said). said y.net y.rule (λ m. cond (eqb m n) (Some (u, t)) (y.meters m))) g.says ∙ ap (said (net_of net) rule) (λ i m. sym (e m) i))
 
-  pub go_on : (a b l' p' : ℕ) → a ≡ l → b ≡ p → Reads file p Meters nodes links Go → p' ≡ p + length (text_of Go) → l' ≡ l + 1 → files.Network file l₀ p₀ (said (net_of net) rule (meters_of gates)) a b l' p'
-  go_on a b l' p' la pb reads on next =
+  pub go_on : (a : Position) (l' p' : ℕ) → a ≡ position l p → Reads file p Meters nodes links Go → p' ≡ p + length (text_of Go) → l' ≡ l + 1 → files.Network file l₀ p₀ (said (net_of net) rule (meters_of gates)) a.line a.place l' p'
+  go_on a l' p' at reads on next =
       let rest = g.rows in
       record {
         rows = rest;
-        head = subst (λ (x : ℕ × ℕ). Upto file l₀ p₀ rest x.0 x.1) (λ i. (sym la i, sym pb i)) g.upto;
+        head = subst (λ (x : Position). Upto file l₀ p₀ rest x.line x.place) (sym at) g.upto;
         whole = upto_more file l₀ p₀ rest l p Go l' p' g.upto (goes_on file l₀ p₀ l p Meters nodes links (said (net_of net) rule (meters_of gates)) g not_meters) (reads' file l₀ p₀ l p Meters nodes links (said (net_of net) rule (meters_of gates)) g not_meters Go reads)
             (λ q. ((λ j h. h.1), ((λ j h. h.1), ((λ j h. h.1), ((λ j h. h.1), ((λ j h. h.1), tt)))))) on next;
         says = sym g.says;
@@ -235,13 +229,3 @@ none_there (Some g) e = absurd (both_ways true e refl)
 -- the same rows, said of an equal network or table
 pub got_as : (file : List ℕ) (l₀ p₀ l p : ℕ) (stage : Stage) (nodes links : ℕ) (s s' : Said) → s ≡ s' → Got file l₀ p₀ l p stage nodes links s → Got file l₀ p₀ l p stage nodes links s'
 got_as file l₀ p₀ l p stage nodes links s s' e g = subst (Got file l₀ p₀ l p stage nodes links) e g
-
-pub meter_ranges : (nodes links n u t : ℕ) → nodes ≤ 32 → Ranged nodes links (Meter n u t) → ((1 ≤ n) × (n ≤ 32)) × (((1 ≤ u) × (u ≤ 200)) × ((1 ≤ t) × (t ≤ 63)))
-meter_ranges nodes links n u t few a = ((a.0.0, omega (arith, a.0.1)), (a.1.0, a.1.1.0))
-
--- the same rows, of an equal file
-pub got_in : (file f : List ℕ) (l₀ p₀ l p : ℕ) (stage : Stage) (nodes links : ℕ) (s : Said) → file ≡ f → Got file l₀ p₀ l p stage nodes links s → Got f l₀ p₀ l p stage nodes links s
-got_in file f l₀ p₀ l p stage nodes links s e g = subst (λ (x : List ℕ). Got x l₀ p₀ l p stage nodes links s) e g
-
-pub network_in : (file f : List ℕ) (l₀ p₀ : ℕ) (s : Said) (l p l' p' : ℕ) → file ≡ f → files.Network file l₀ p₀ s l p l' p' → files.Network f l₀ p₀ s l p l' p'
-network_in file f l₀ p₀ s l p l' p' e n = subst (λ (x : List ℕ). files.Network x l₀ p₀ s l p l' p') e n

@@ -7,14 +7,11 @@ use Rattle.rows.specs.declared.kind.Stage.TheVariants.{Calls}
 use Rattle.rows.specs.declared.row.Row.{Row}
 use Rattle.rows.specs.declared.row.Row.TheVariants as row
 use Rattle.reader.specs.Faults.{filed, file_told}
-use Rattle.reader.specs.declared.calls.CallRow.{CallRow}
-use Rattle.reader.specs.declared.calls.CallRow.TheVariants.{Book, Step, Show}
+use Rattle.rows.specs.declared.row.CallRow.{CallRow}
 use Rattle.reader.specs.declared.fault.FileFault.{FileFault}
 
 abbrev pub row_of : CallRow → Row
-row_of (Book e x k) = row.Book e x k
-row_of (Step k) = row.Step k
-row_of Show = row.Show
+row_of = row.Call
 
 -- a call as a row, with the line and place behind it
 pub data CallAnswer : Type 0 where

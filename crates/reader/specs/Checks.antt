@@ -10,16 +10,16 @@ use Rattle.rows.specs.Rows.{kind_of}
 use Rattle.rows.specs.Wants.{Ranged}
 use Rattle.rows.specs.declared.kind.Stage.TheVariants.{Calls}
 use Rattle.rows.specs.declared.row.Row.{Row}
-use Rattle.rows.specs.declared.row.Row.TheVariants.{Net, Link, Route, Merge, Meter, Go, Book, Step, Show}
+use Rattle.rows.specs.declared.row.Row.TheVariants.{Net, Link, Route, Merge, Meter, Go, Call}
 use Rattle.reader.specs.Said.{In, net_said, wanted, stage_of}
 
 -- a link not from a lower to a higher node
 abbrev pub Downward : Row → Type 0
-Downward r = elim r [ Net n l ↦ ⊥ | Link k ↦ k.to ≤ k.from | Route n x k ↦ ⊥ | Merge u ↦ ⊥ | Meter n u t ↦ ⊥ | Go ↦ ⊥ | Book n x k ↦ ⊥ | Step k ↦ ⊥ | Show ↦ ⊥ ]
+Downward r = elim r [ Net n l ↦ ⊥ | Link k ↦ k.to ≤ k.from | Route n x k ↦ ⊥ | Merge u ↦ ⊥ | Meter n u t ↦ ⊥ | Go ↦ ⊥ | Call c ↦ ⊥ ]
 
 -- the last link row
 abbrev pub Closes : List Row → Row → Type 0
-Closes rows r = elim r [ Net n l ↦ ⊥ | Link k ↦ (net_said rows).links + 1 ≡ wanted rows | Route n x k ↦ ⊥ | Merge u ↦ ⊥ | Meter n u t ↦ ⊥ | Go ↦ ⊥ | Book n x k ↦ ⊥ | Step k ↦ ⊥ | Show ↦ ⊥ ]
+Closes rows r = elim r [ Net n l ↦ ⊥ | Link k ↦ (net_said rows).links + 1 ≡ wanted rows | Route n x k ↦ ⊥ | Merge u ↦ ⊥ | Meter n u t ↦ ⊥ | Go ↦ ⊥ | Call c ↦ ⊥ ]
 
 -- a node of no kind
 abbrev pub Odd : network.Net → ℕ → Type 0
@@ -27,15 +27,15 @@ Odd net n = (1 ≤ n) × (n ≤ net.nodes) × (network.Kind net n → ⊥)
 
 -- a route not from a diverge, to an exit, by a link that leaves the diverge
 abbrev pub Misrouted : List Row → Row → Type 0
-Misrouted rows r = elim r [ Net n l ↦ ⊥ | Link k ↦ ⊥ | Route n x k ↦ (RouteFits (net_said rows) n x k → ⊥) | Merge u ↦ ⊥ | Meter n u t ↦ ⊥ | Go ↦ ⊥ | Book n x k ↦ ⊥ | Step k ↦ ⊥ | Show ↦ ⊥ ]
+Misrouted rows r = elim r [ Net n l ↦ ⊥ | Link k ↦ ⊥ | Route n x k ↦ (RouteFits (net_said rows) n x k → ⊥) | Merge u ↦ ⊥ | Meter n u t ↦ ⊥ | Go ↦ ⊥ | Call c ↦ ⊥ ]
 
 -- a second route for a node and exit, or a second meter at a node
 abbrev pub Twice : List Row → Row → Type 0
-Twice rows r = elim r [ Net n l ↦ ⊥ | Link k ↦ ⊥ | Route n x k ↦ (j : ℕ) × In (Route n x j) rows | Merge u ↦ ⊥ | Meter n u t ↦ (v : ℕ) × (s : ℕ) × In (Meter n v s) rows | Go ↦ ⊥ | Book n x k ↦ ⊥ | Step k ↦ ⊥ | Show ↦ ⊥ ]
+Twice rows r = elim r [ Net n l ↦ ⊥ | Link k ↦ ⊥ | Route n x k ↦ (j : ℕ) × In (Route n x j) rows | Merge u ↦ ⊥ | Meter n u t ↦ (v : ℕ) × (s : ℕ) × In (Meter n v s) rows | Go ↦ ⊥ | Call c ↦ ⊥ ]
 
 -- a meter not at a merge
 abbrev pub Misplaced : List Row → Row → Type 0
-Misplaced rows r = elim r [ Net n l ↦ ⊥ | Link k ↦ ⊥ | Route n x k ↦ ⊥ | Merge u ↦ ⊥ | Meter n u t ↦ (IsMerge (net_said rows) n → ⊥) | Go ↦ ⊥ | Book n x k ↦ ⊥ | Step k ↦ ⊥ | Show ↦ ⊥ ]
+Misplaced rows r = elim r [ Net n l ↦ ⊥ | Link k ↦ ⊥ | Route n x k ↦ ⊥ | Merge u ↦ ⊥ | Meter n u t ↦ (IsMerge (net_said rows) n → ⊥) | Go ↦ ⊥ | Call c ↦ ⊥ ]
 
 -- the checks of a row that starts at p
 abbrev pub file_checks : List Row → Row → ℕ → List Check

@@ -14,7 +14,7 @@ use Rattle.reader.specs.Checks.{Sound, file_checks, NodeTold}
 use Rattle.reader.specs.Faults.{filed, file_told}
 use Rattle.reader.specs.Said.{shown, net_said, wanted, stage_of, Said, said_by}
 use Rattle.reader.specs.declared.corridor.Corridor.{Corridor}
-use Rattle.reader.specs.declared.corridor.RowStart.{RowStart}
+use Rattle.words.specs.declared.position.Position.{Position}
 use Rattle.reader.specs.declared.fault.FileFault.{FileFault}
 
 -- the file, from l₀ and p₀ up to line l at place p, is the text of these rows, which may stand so
@@ -65,7 +65,7 @@ abbrev pub said_of : Corridor → Said
 said_of c = record { net = nets.net_of c.network; rule = c.rule; meters = λ n. numbers_of (gates_of c.gates n) }
 
 -- a network was read, and the reader stands behind `go`; or a fault leaves all as it was
-abbrev pub ReadNetwork : List ℕ → ℕ → ℕ → Corridor → Corridor → ℕ → ℕ → Result RowStart FileFault → Type 0
+abbrev pub ReadNetwork : List ℕ → ℕ → ℕ → Corridor → Corridor → ℕ → ℕ → Result Position FileFault → Type 0
 ReadNetwork bytes l₀ p₀ c c' l' p' r =
     MatchResult r
     (λ go. Answers bytes l₀ p₀ (network (said_of c') go.line go.place l' p'))

@@ -20,7 +20,8 @@ use Rattle.rows.specs.declared.row.Row.TheVariants as row
 use Rattle.reader.specs.Faults.{filed, file_told}
 use Rattle.reader.specs.Files.{Upto, Refused, Network as Whole, numbers_of}
 use Rattle.reader.specs.Said.{net_said, wanted, stage_of, Said, said_by}
-use Rattle.reader.specs.declared.corridor.RowStart.{RowStart}
+use Rattle.words.specs.declared.position.Position.{Position}
+use Rattle.rows.specs.declared.row.Counts.{Counts}
 use Rattle.reader.specs.declared.fault.FileFault.{FileFault}
 use Rattle.reader.specs.declared.fault.FileFault.TheVariants as fault
 
@@ -56,52 +57,56 @@ Phase file l p from nodes links s l' p' to s' r =
     (l₀ p₀ : ℕ) → Got file l₀ p₀ l p from nodes links s → MatchResult r (λ x. Got file l₀ p₀ l' p' to nodes links (s' x)) (λ f. Refused file l₀ p₀ (file_told f))
 
 -- the `net` row is read
-abbrev pub Opening : List ℕ → ℕ → ℕ → ℕ → ℕ → Result (ℕ × ℕ) FileFault → Type 0
+abbrev pub Opening : List ℕ → ℕ → ℕ → ℕ → ℕ → Result Counts FileFault → Type 0
 Opening file l p l' p' r =
     MatchResult r
-    (λ x. ((2 ≤ x.0) × (x.0 ≤ 32) × (1 ≤ x.1) × (x.1 ≤ 48)) × Got file l p l' p' Links x.0 x.1 (bare (bare_net x.0)))
+    (λ x. ((2 ≤ x.nodes) × (x.nodes ≤ 32) × (1 ≤ x.links) × (x.links ≤ 48)) × Got file l p l' p' Links x.nodes x.links (bare (bare_net x.nodes)))
     (λ f. Refused file l p (file_told f))
-
--- the row that stands next is a link
-abbrev pub NextLink : List ℕ → ℕ → ℕ → ℕ → ℕ → ℕ → ℕ → Result Link FileFault → Type 0
-NextLink file p l nodes links p' l' r =
-    MatchResult r
-    (λ k. Reads file p Links nodes links (row.Link k) × (p' ≡ p + length (text_of (row.Link k))) × (l' ≡ l + 1))
-    (λ f. NoRow file p l Links nodes links (file_told f))
 
 abbrev pub meters_of : Gates → ℕ → Option (ℕ × ℕ)
 meters_of gates n = numbers_of (gates_of gates n)
 
 -- a meter is taken, or it is refused
-abbrev pub TakenMeter : Network → Gates → ℕ → ℕ → ℕ → RowStart → Gates → Result (Unit {0}) FileFault → Type 0
+abbrev pub TakenMeter : Network → Gates → ℕ → ℕ → ℕ → Position → Gates → Result (Unit {0}) FileFault → Type 0
 TakenMeter net g n u t start g' r =
     MatchResult r
     (λ _. (meters_of g n ≡ None) × IsMerge (net_of net) n × ((m : ℕ) → meters_of g' m ≡ cond (m == n) (Some (u, t)) (meters_of g m)))
-    (λ f. ((f ≡ fault.Again start.line start.place) × ((v : ℕ) × (s : ℕ) × (meters_of g n ≡ Some (v, s)))) ⊎ ((f ≡ fault.Meter start.line start.place) × (meters_of g n ≡ None) × (IsMerge (net_of net) n → ⊥)))
+    (λ f. ((f ≡ fault.Again start) × ((v : ℕ) × (s : ℕ) × (meters_of g n ≡ Some (v, s)))) ⊎ ((f ≡ fault.Meter start) × (meters_of g n ≡ None) × (IsMerge (net_of net) n → ⊥)))
 
 -- the meters are read, and `go` behind them
-abbrev pub Closing : List ℕ → ℕ → ℕ → ℕ → ℕ → Network → ℕ → ℕ → Result (Gates × RowStart) FileFault → Type 0
+abbrev pub Closing : List ℕ → ℕ → ℕ → ℕ → ℕ → Network → ℕ → ℕ → Result (Gates × Position) FileFault → Type 0
 Closing file l p nodes links net l' p' r =
     (l₀ p₀ : ℕ) (rule : Choice) → Got file l₀ p₀ l p Meters nodes links (said (net_of net) rule (λ n. None)) →
     MatchResult r (λ x. Whole file l₀ p₀ (said (net_of net) rule (meters_of x.0)) x.1.line x.1.place l' p') (λ f. Refused file l₀ p₀ (file_told f))
 
 -- a link is taken, or it is refused
-abbrev pub TakenLink : Draft → Link → RowStart → Draft → Result (Unit {0}) FileFault → Type 0
+abbrev pub TakenLink : Draft → Link → Position → Draft → Result (Unit {0}) FileFault → Type 0
 TakenLink d k start d' r =
     MatchResult r
     (λ _. (k.from < k.to) × (draft_of d' ≡ with_link (draft_of d) k) × (d'.wanted ≡ d.wanted))
-    (λ f. (f ≡ fault.Link start.line start.place) × (k.to ≤ k.from))
+    (λ f. (f ≡ fault.Link start) × (k.to ≤ k.from))
+
+-- a `link` row stands at a, and the next row at a'
+abbrev pub LinkRow : List ℕ → Position → ℕ → ℕ → Link → Position → Type 0
+LinkRow file a nodes links k a' = Reads file a.place Links nodes links (row.Link k) × (a'.place ≡ a.place + length (text_of (row.Link k))) × (a'.line ≡ a.line + 1)
+
+-- the row that stands next is a link, and it is taken; or there is none, or it is refused
+abbrev pub NextLink : List ℕ → Position → ℕ → ℕ → Draft → Draft → Position → Result Position FileFault → Type 0
+NextLink file a nodes links d d' a' r =
+    MatchResult r
+    (λ start. (start ≡ a) × ((k : Link) × LinkRow file a nodes links k a' × (k.from < k.to) × (draft_of d' ≡ with_link (draft_of d) k) × (d'.wanted ≡ d.wanted)))
+    (λ f. NoRow file a.place a.line Links nodes links (file_told f) ⊎ ((k : Link) × LinkRow file a nodes links k a' × (f ≡ fault.Link a) × (k.to ≤ k.from)))
 
 -- the links make a network, or the lowest node of no kind is told
-abbrev pub Closed : Draft → RowStart → Result Network FileFault → Type 0
+abbrev pub Closed : Draft → Position → Result Network FileFault → Type 0
 Closed d start r =
     MatchResult r
     (λ n. net_of n ≡ draft_of d)
-    (λ f. (m : ℕ) × (f ≡ fault.Node start.line start.place m) × LowestOdd (draft_of d) m)
+    (λ f. (m : ℕ) × (f ≡ fault.Node start m) × LowestOdd (draft_of d) m)
 
 -- a route is taken, or it is refused
-abbrev pub TakenRoute : Network → ℕ → ℕ → ℕ → RowStart → Network → Result (Unit {0}) FileFault → Type 0
+abbrev pub TakenRoute : Network → ℕ → ℕ → ℕ → Position → Network → Result (Unit {0}) FileFault → Type 0
 TakenRoute a n x k start b r =
     MatchResult r
     (λ _. RouteFits (net_of a) n x k × ((net_of a).route n x ≡ None) × (net_of b ≡ with_route (net_of a) n x (k - 1)))
-    (λ f. ((f ≡ fault.Route start.line start.place) × (RouteFits (net_of a) n x k → ⊥)) ⊎ ((f ≡ fault.Again start.line start.place) × RouteFits (net_of a) n x k × ((j : ℕ) × ((net_of a).route n x ≡ Some j))))
+    (λ f. ((f ≡ fault.Route start) × (RouteFits (net_of a) n x k → ⊥)) ⊎ ((f ≡ fault.Again start) × RouteFits (net_of a) n x k × ((j : ℕ) × ((net_of a).route n x ≡ Some j))))

@@ -6,7 +6,7 @@ use Rattle.network.specs.Net as law
 use Rattle.network.specs.declared.link.Link.{Link as LinkData}
 use Rattle.merge.specs.declared.choice.Choice.{Choice}
 use Rattle.rows.specs.declared.row.Row.{Row}
-use Rattle.rows.specs.declared.row.Row.TheVariants.{Net, Link, Route, Merge, Meter, Go, Book, Step, Show}
+use Rattle.rows.specs.declared.row.Row.TheVariants.{Net, Link, Route, Merge, Meter, Go, Call}
 use Rattle.reader.specs.Calls.{CallAnswer, CallAnswers}
 use Rattle.reader.specs.Checks.{Sound}
 use Rattle.reader.specs.Files.{Answer, network, Answers}
@@ -23,7 +23,7 @@ OneCall = (bytes : List ℕ) (l p : ℕ) (a b : CallAnswer) → CallAnswers byte
 -- the links of the rows, in their order
 abbrev pub links_in : List Row → List LinkData
 links_in [] = []
-links_in (r ∷ rows) = elim r [ Net n l ↦ links_in rows | Link k ↦ links_in rows ++ (k ∷ []) | Route n x k ↦ links_in rows | Merge u ↦ links_in rows | Meter n u t ↦ links_in rows | Go ↦ links_in rows | Book n x k ↦ links_in rows | Step k ↦ links_in rows | Show ↦ links_in rows ]
+links_in (r ∷ rows) = elim r [ Net n l ↦ links_in rows | Link k ↦ links_in rows ++ (k ∷ []) | Route n x k ↦ links_in rows | Merge u ↦ links_in rows | Meter n u t ↦ links_in rows | Go ↦ links_in rows | Call c ↦ links_in rows ]
 
 -- What rows say is what each of them says: counts, links in order, routes, rule and meters.
 pub record Faithful (rows : List Row) : Type 0 where

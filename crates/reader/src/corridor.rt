@@ -14,13 +14,6 @@ pub struct Corridor {
     pub gates: Gates,
 }
 
-// Where a row starts: its line from 1, and its place in bytes from 0.
-#[derive(Clone, Copy)]
-pub struct RowStart {
-    pub line: usize,
-    pub place: usize,
-}
-
 impl Corridor {
     // The fresh network, under fair and without meters.
     pub fn fresh() -> Corridor

@@ -1,50 +1,29 @@
 // What a reader of networks refuses.
 ghost use Rattle.std.specs.Prelude.{◌≡◌};
-ghost use Rattle.reader.specs.Faults.{file_told, filed};
+ghost use Rattle.reader.specs.Faults.{file_told};
 ghost use Rattle.reader.specs.declared.fault.FileFault.TheVariants.{Row};
 
 use rows::RowFault;
-use words::{Layer, Told};
+use words::{Layer, Position, Told};
 
 // A fault of a file; a row's is kept whole.
 #[derive(Clone, Copy, Debug)]
 pub enum FileFault {
     // the file is over 65,535 bytes
     Long,
-    Row {
-        fault: RowFault,
-    },
+    Row { fault: RowFault },
     // the file ends before `go`
-    End {
-        line: usize,
-        place: usize,
-    },
+    End { at: Position },
     // a link not from a lower to a higher node
-    Link {
-        line: usize,
-        place: usize,
-    },
+    Link { at: Position },
     // a node of no kind, after the last link row
-    Node {
-        line: usize,
-        place: usize,
-        node: u16,
-    },
+    Node { at: Position, node: u16 },
     // a route not from a diverge, to an exit, by a link that leaves it
-    Route {
-        line: usize,
-        place: usize,
-    },
+    Route { at: Position },
     // a second route for a node and exit, or meter at a node
-    Again {
-        line: usize,
-        place: usize,
-    },
+    Again { at: Position },
     // a meter not at a merge
-    Meter {
-        line: usize,
-        place: usize,
-    },
+    Meter { at: Position },
 }
 
 impl From<RowFault> for FileFault {
@@ -55,33 +34,27 @@ impl From<RowFault> for FileFault {
     }
 }
 
-fn file_told(number: u8, line: usize, place: usize, node: u16) -> Told
-    ensures { result ≡ filed number line place node }
-{
-    Told {
-        number,
-        line,
-        place,
-        layer: Layer::File,
-        node,
-    }
-}
-
 impl FileFault {
     // All that the fault tells.
     pub fn told(&self) -> Told
         ensures { result ≡ file_told self.now }
     {
-        match *self {
-            FileFault::Long => file_told(1, 0, 0, 0),
-            FileFault::Row { fault } => fault.told(),
-            FileFault::End { line, place } => file_told(15, line, place, 0),
-            FileFault::Link { line, place } => file_told(21, line, place, 0),
-            FileFault::Node { line, place, node } => file_told(22, line, place, node),
-            FileFault::Route { line, place } => file_told(23, line, place, 0),
-            FileFault::Again { line, place } => file_told(24, line, place, 0),
-            FileFault::Meter { line, place } => file_told(25, line, place, 0),
-        }
+        // Each case's number stands in its arm: a case with a field has no discriminant to read.
+        let (number, at) = match *self {
+            FileFault::Row { fault } => return fault.told(),
+            FileFault::Node { at, node } => {
+                let told = Told::new(Layer::File, 22, at);
+                return Told { node, ..told };
+            }
+            // The fixed format of refusals: line 0 is the file as a whole.
+            FileFault::Long => (1, Position { line: 0, place: 0 }),
+            FileFault::End { at } => (15, at),
+            FileFault::Link { at } => (21, at),
+            FileFault::Route { at } => (23, at),
+            FileFault::Again { at } => (24, at),
+            FileFault::Meter { at } => (25, at),
+        };
+        Told::new(Layer::File, number, at)
     }
 
     pub fn number(&self) -> u8

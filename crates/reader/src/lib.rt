@@ -9,7 +9,9 @@ pub mod laws;
 pub mod load;
 mod take;
 
-pub use calls::{CallRow, next_row};
-pub use corridor::{Corridor, RowStart};
+pub use calls::next_row;
+pub use corridor::Corridor;
 pub use fault::FileFault;
 pub use load::read_network;
+pub use rows::CallRow;
+pub use words::Position;

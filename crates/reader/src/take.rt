@@ -1,40 +1,32 @@
-// Takes in what a row of the head says, or tells the fault of a row that starts at `start`.
-ghost use Rattle.std.specs.Prelude.{◌≡◌, ◌<◌, ◌≤◌};
+// Takes in what a row of the head says, or tells the fault of a row that starts at `at`.
+ghost use Rattle.std.specs.Prelude.{◌<◌, ◌≤◌};
 ghost use Rattle.network.specs.Drafts.{draft_of, Ranged};
 ghost use Rattle.reader.specs.Heads.{TakenLink, Closed, TakenRoute, TakenMeter};
 
-use crate::corridor::RowStart;
 use crate::fault::FileFault;
 use merge::{Gate, Gates};
-use network::{Draft, Link, LinkFault, Network, NodeFault, RouteFault};
+use network::{Draft, Link, Network, NodeFault, RouteFault};
+use words::Position;
 
-// Takes a link whose numbers are in range.
-pub(crate) fn add_link(draft: &mut Draft, link: Link, start: RowStart) -> Result<(), FileFault>
+// Takes a link whose numbers are in range; where there is room for it, it can only run backward.
+pub(crate) fn add_link(draft: &mut Draft, link: Link, at: Position) -> Result<(), FileFault>
     requires room { (draft_of draft.old).links < draft.old.wanted }
     requires ranged { Ranged (draft_of draft.old).nodes link }
-    ensures { TakenLink draft.old link start draft.new result }
+    ensures { TakenLink draft.old link at draft.new result }
 {
-    let RowStart { line, place } = start;
-    match draft.add(link) {
-        Ok(()) => Ok(()),
-        Err(LinkFault::Downward) => Err(FileFault::Link { line, place }),
-        Err(LinkFault::Many) => unreachable(),
-        Err(LinkFault::Numbers) => unreachable(),
-    }
+    draft.add(link).map_err(|_| FileFault::Link { at })
 }
 
 // The network of the links, all of which are there.
-pub(crate) fn close(draft: &Draft, start: RowStart) -> Result<Network, FileFault>
+pub(crate) fn close(draft: &Draft, at: Position) -> Result<Network, FileFault>
     requires { draft.now.wanted ≤ (draft_of draft.now).links }
-    ensures { Closed draft.now start result }
+    ensures { Closed draft.now at result }
 {
-    let RowStart { line, place } = start;
+    // map_err would need a closure that is told that one fault can't come.
     match draft.finish() {
         Ok(network) => Ok(network),
-        Err(fault) => match fault {
-            NodeFault::Odd { node } => Err(FileFault::Node { line, place, node }),
-            NodeFault::Missing => unreachable(),
-        },
+        Err(NodeFault::Odd { node }) => Err(FileFault::Node { at, node }),
+        Err(NodeFault::Missing) => unreachable(),
     }
 }
 
@@ -43,16 +35,16 @@ pub(crate) fn add_route(
     node: u16,
     exit: u16,
     link: u16,
-    start: RowStart,
+    at: Position,
 ) -> Result<(), FileFault>
-    ensures { TakenRoute network.old node exit link start network.new result }
+    ensures { TakenRoute network.old node exit link at network.new result }
 {
-    let RowStart { line, place } = start;
-    match network.add_route(node, exit, link) {
-        Ok(()) => Ok(()),
-        Err(RouteFault::Misfit) => Err(FileFault::Route { line, place }),
-        Err(RouteFault::Second) => Err(FileFault::Again { line, place }),
-    }
+    network
+        .add_route(node, exit, link)
+        .map_err(|fault| match fault {
+            RouteFault::Misfit => FileFault::Route { at },
+            RouteFault::Second => FileFault::Again { at },
+        })
 }
 
 // Takes a meter whose numbers are in range.
@@ -62,25 +54,22 @@ pub(crate) fn add_meter(
     node: u16,
     rate: u16,
     period: u16,
-    start: RowStart,
+    at: Position,
 ) -> Result<(), FileFault>
     requires node { (1 ≤ node) × (node ≤ 32) }
     requires rate { (1 ≤ rate) × (rate ≤ 200) }
     requires period { (1 ≤ period) × (period ≤ 63) }
-    ensures { TakenMeter network.now gates.old node rate period start gates.new result }
+    ensures { TakenMeter network.now gates.old node rate period at gates.new result }
 {
-    let RowStart { line, place } = start;
     if gates.gate(node).is_some() {
-        return Err(FileFault::Again { line, place });
+        return Err(FileFault::Again { at });
     }
     if !network.is_merge(node) {
-        return Err(FileFault::Meter { line, place });
+        return Err(FileFault::Meter { at });
     }
-    match Gate::new(rate, period) {
-        Some(gate) => {
-            let _ = gates.put(node, gate);
-            Ok(())
-        }
-        None => unreachable(),
-    }
+    let Some(gate) = Gate::new(rate, period) else {
+        unreachable()
+    };
+    let _ = gates.put(node, gate);
+    Ok(())
 }

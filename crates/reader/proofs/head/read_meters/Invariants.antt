@@ -8,7 +8,7 @@ use Rattle.reader.proofs.head.read_meters.Given as goal
 abbrev pub invariant-loop-node : goal.invariant-loop-node
 invariant-loop-node l =
     (l.reader.file.now ≡ l.initial.reader.file.now)
-    × ((l₀ p₀ : ℕ) (rule : Choice) → Got l.initial.reader.file.now l₀ p₀ l.initial.reader.line l.initial.reader.place Meters l.nodes l.links (said (net_of l.network) rule (λ n. None)) → Got l.initial.reader.file.now l₀ p₀ l.reader.line l.reader.place Meters l.nodes l.links (said (net_of l.network) rule (meters_of l.gates)))
+    × ((l₀ p₀ : ℕ) (rule : Choice) → Got l.initial.reader.file.now l₀ p₀ l.initial.reader.at.line l.initial.reader.at.place Meters l.counts.nodes l.counts.links (said (net_of l.network) rule (λ n. None)) → Got l.initial.reader.file.now l₀ p₀ l.reader.at.line l.reader.at.place Meters l.counts.nodes l.counts.links (said (net_of l.network) rule (meters_of l.gates)))
 
 abbrev pub decreases-loop-node : goal.decreases-loop-node
-decreases-loop-node l = length l.initial.reader.file.now - l.reader.place
+decreases-loop-node l = length l.initial.reader.file.now - l.reader.at.place
