@@ -1,5 +1,5 @@
 pub mod Turning
-pub mod Marking
+pub mod Keeping
 pub mod Changing
 pub mod Noting
 pub mod Spacing

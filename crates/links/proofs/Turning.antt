@@ -1,26 +1,39 @@
--- A full line of readings that takes one more.
-use Rattle.std.proofs.Common.{◌≡◌, ℕ, suc, ◌+◌, ◌-◌, ◌<◌, ◌≤◌, List, [], ◌∷◌, ◌++◌, length, get_or, Some, sym, ap, ◌∙◌, arith}
-use Rattle.std.specs.List.{slice_get, between}
+-- A full queue of readings that takes one more.
+use Rattle.std.proofs.Common.{◌≡◌, ℕ, suc, ◌+◌, ◌-◌, ◌<◌, ◌≤◌, List, [], ◌∷◌, ◌++◌, length, get_or, Some, true, ltb, sym, ap, ◌∙◌, arith, lt-ltb}
+use Rattle.std.specs.List.{slice_get}
 use Rattle.std.proofs.lemmas.Option.{slice_get-get_or}
 use Rattle.std.proofs.lemmas.List.{get_or_append_left, get_or-append_right}
-use Rattle.line.specs.Ring.{rest}
-use Rattle.line.specs.Parts.{queue, Sound}
-use Rattle.line.specs.declared.shape.Mark.{Mark}
+use Rattle.line.specs.Ring.{held, rest}
+use Rattle.line.specs.Parts.{part_of, queue}
+use Rattle.line.specs.declared.shape.Part.{Part}
 use Rattle.line.proofs.Pieces.{length_part}
 use Rattle.line.proofs.Rings.{length_held}
-use Rattle.links.specs.declared.records.Curve.{Curve}
-use Rattle.links.specs.Readings.{Full, readings, back, Next}
+use Rattle.links.specs.declared.curve.Curve.{Curve}
+use Rattle.links.specs.Readings.{readings, back, Next}
+use Rattle.links.proofs.Keeping.{full_of}
 
-pub len_of : (s : List ℕ) (m : Mark) → length s ≡ 64 → Sound 64 m → length (queue s 0 64 m) ≡ m.len
-len_of s m w h =
-    let n = length_part s 0 64 (omega arith) in
-    length_held (between 0 64 s) m.head (omega (arith, n, h.inside)) m.len (omega (arith, n, h.fits))
+-- a queue of all slots, which is full
+pub record Whole (p : Part) (at : ℕ) : Type 0 where
+  pub start : p.start ≡ 0
+  pub size : p.size ≡ 64
+  pub head : p.head ≡ at
+  pub len : p.len ≡ 64
 
-pub sound : (c : Curve) → Full c → Sound 64 c.mark
-sound c f = record { inside = f.inside; fits = omega (arith, f.full) }
+pub as_held : (s : List ℕ) (p : Part) (head : ℕ) → Whole p head → queue s p ≡ held (part_of 0 64 s) head 64
+as_held s p head w =
+    ap (λ q. held (part_of q p.size s) p.head p.len) w.start
+    ∙ ap (λ q. held (part_of 0 q s) p.head p.len) w.size
+    ∙ ap (λ q. held (part_of 0 64 s) q p.len) w.head
+    ∙ ap (λ q. held (part_of 0 64 s) head q) w.len
 
-pub length_readings : (c : Curve) → Full c → length (readings c) ≡ 64
-length_readings c f = len_of c.slots c.mark f.wide (sound c f) ∙ f.full
+-- once the oldest is gone there is room
+pub has_room : (p p' : Part) → p.len ≡ 64 → p.size ≡ 64 → p'.len ≡ p.len - 1 → p'.size ≡ p.size → ltb p'.len p'.size ≡ true
+has_room p p' len size len' size' = let l : p'.len < p'.size = omega arith in lt-ltb p'.len p'.size l
+
+pub length_readings : (c : Curve) → length (readings c) ≡ 64
+length_readings c =
+    let n = length_part c.slots 0 64 (omega (arith, c.wide)) in
+    length_held (part_of 0 64 c.slots) c.oldest (omega (arith, n, c.inside)) 64 (omega (arith, n))
 
 length_rest : (rs : List ℕ) → length rs ≡ 64 → length (rest rs) ≡ 63
 length_rest [] e = omega arith
@@ -31,17 +44,17 @@ rest_at [] k e h = omega arith
 rest_at (r ∷ rs) k e h = let q : 63 - k ≡ suc (63 - (k + 1)) = omega arith in sym (ap (λ z. get_or (r ∷ rs) z 0) q)
 
 -- the readings once the oldest is gone and x has come
-pub next_of : (c c' : Curve) (x : ℕ) → Full c → Full c' → readings c' ≡ rest (readings c) ++ x ∷ [] → Next c x c'
+pub next_of : (c c' : Curve) (x : ℕ) → readings c' ≡ rest (readings c) ++ x ∷ [] → Next c x c'
 unfolding back
-next_of c c' x f f' list = record {
-  full = f';
+next_of c c' x list = record {
+  full = full_of c';
   newest = ap (λ (rs : List ℕ). get_or rs 63 0) list ∙ get_or-append_right (rest (readings c)) (x ∷ []) 63 63 0 n (omega arith);
-  older = λ k l. ap (λ (rs : List ℕ). get_or rs (63 - (k + 1)) 0) list ∙ get_or_append_left (rest (readings c)) (x ∷ []) 0 (63 - (k + 1)) (omega (arith, n)) ∙ rest_at (readings c) k (length_readings c f) l;
+  older = λ k l. ap (λ (rs : List ℕ). get_or rs (63 - (k + 1)) 0) list ∙ get_or_append_left (rest (readings c)) (x ∷ []) 0 (63 - (k + 1)) (omega (arith, n)) ∙ rest_at (readings c) k (length_readings c) l;
 }
   where
     n : length (rest (readings c)) ≡ 63
-    n = length_rest (readings c) (length_readings c f)
+    n = length_rest (readings c) (length_readings c)
 
-pub ago_of : (c : Curve) (k r : ℕ) → Full c → k ≤ 63 → Some r ≡ slice_get (readings c) (63 - k) → r ≡ back c k
+pub ago_of : (c : Curve) (k r : ℕ) → k ≤ 63 → Some r ≡ slice_get (readings c) (63 - k) → r ≡ back c k
 unfolding back
-ago_of c k r f l e = let g = slice_get-get_or (readings c) (63 - k) 0 (omega (arith, length_readings c f)) in cc
+ago_of c k r l e = let g = slice_get-get_or (readings c) (63 - k) 0 (omega (arith, length_readings c)) in cc

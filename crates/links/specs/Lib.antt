@@ -1,3 +1,4 @@
+pub mod Counts
 pub mod Readings
 pub mod Tables
 pub mod Yards

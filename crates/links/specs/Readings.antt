@@ -1,19 +1,17 @@
 -- Readings by how many clocks ago they were taken.
 use Rattle.std.specs.Prelude.{◌≡◌, ℕ, ◌+◌, ◌-◌, ◌<◌, ◌≤◌, List, length, slice_index}
-use Rattle.line.specs.Parts.{queue}
-use Rattle.links.specs.declared.records.Curve.{Curve}
-
--- how many readings are kept of a curve
-abbrev pub reading_count : ℕ
-reading_count = 64
+use Rattle.line.specs.Ring.{held}
+use Rattle.line.specs.Parts.{part_of}
+use Rattle.links.specs.Counts.{reading_count}
+use Rattle.links.specs.declared.curve.Curve.{Curve}
 
 pub record Full (c : Curve) : Type 0 where
   pub wide : length c.slots ≡ reading_count
-  pub inside : c.mark.head ≤ reading_count
-  pub full : c.mark.len ≡ reading_count
+  pub inside : c.oldest ≤ reading_count
 
+-- the entries of the queue that has all the slots and is full
 abbrev pub readings : Curve → List ℕ
-readings c = queue c.slots 0 reading_count c.mark
+readings c = held (part_of 0 reading_count c.slots) c.oldest reading_count
 
 unfoldable pub back : Curve → ℕ → ℕ
 back c k = slice_index (readings c) (reading_count - 1 - k)

@@ -1,55 +1,45 @@
 -- The table of links, record by record.
-use Rattle.std.specs.Prelude.{◌≡◌, ℕ, ◌+◌, ◌-◌, cond, ◌≢◌, [], length, replicate, None, Option, nat_lt, slice_index_or}
-use Rattle.line.specs.declared.shape.Mark.{Mark}
-use Rattle.links.specs.declared.records.Lane.{Lane}
-use Rattle.links.specs.declared.records.Curve.{Curve}
+use Rattle.std.specs.Prelude.{◌≡◌, ℕ, ◌+◌, ◌-◌, ◌<◌, ◌≤◌, cond, ◌≢◌, length, replicate, None, Option, nat_lt, slice_index_or}
+use Prim.Native.Nat.{zero-le}
+use Rattle.line.specs.declared.shape.Part.{Part}
+use Rattle.line.specs.Parts.{fresh}
+use Rattle.links.specs.declared.curve.Curve.{Curve}
 use Rattle.links.specs.declared.records.LinkRecord.{LinkRecord}
 use Rattle.links.specs.declared.records.Table.{Table}
 use Rattle.links.specs.declared.records.Side.{Side}
-use Rattle.links.specs.declared.records.Side.TheVariants as side
-use Rattle.links.specs.declared.records.Change.{Change}
-use Rattle.links.specs.declared.records.Change.TheVariants.{Road, Queue, Readings}
-use Rattle.links.specs.Readings.{reading_count, Full, Next}
-
--- how many links the table has places for, and how many lanes they have
-abbrev pub table_size : ℕ
-table_size = 48
-
-abbrev pub lane_count : ℕ
-lane_count = table_size + table_size
-
-abbrev pub blank_lane : Lane
-blank_lane = record { start = 0; size = 0; mark = record { head = 0; len = 0 } }
-
-abbrev pub blank_curve : Curve
-blank_curve = record { slots = []; mark = record { head = 0; len = 0 } }
-
-abbrev pub blank_record : LinkRecord
-blank_record = record { road = blank_lane; queue = blank_lane; ons = blank_curve; offs = blank_curve; travel = None }
+use Rattle.links.specs.declared.records.Side.TheVariants.{Road, Queue}
+use Rattle.links.specs.Counts.{reading_count}
+pub use Rattle.links.specs.Counts.{table_size, lane_count}
+use Rattle.links.specs.Readings.{Next}
 
 -- records of a run just opened
-abbrev pub fresh_lane : ℕ → ℕ → Lane
-fresh_lane start size = record { start = start; size = size; mark = record { head = 0; len = 0 } }
-
 abbrev pub fresh_curve : Curve
-fresh_curve = record { slots = replicate reading_count 0; mark = record { head = 0; len = reading_count } }
+fresh_curve = record { slots = replicate reading_count 0; oldest = 0; wide = λ _. reading_count; inside = zero-le }
 
-abbrev pub fresh_record : Lane → Lane → LinkRecord
+abbrev pub fresh_record : Part → Part → LinkRecord
 fresh_record road queue = record { road = road; queue = queue; ons = fresh_curve; offs = fresh_curve; travel = None }
+
+abbrev pub blank_record : LinkRecord
+blank_record = fresh_record (fresh 0 0) (fresh 0 0)
 
 abbrev pub record_at : Table → ℕ → LinkRecord
 record_at table i = slice_index_or table.links i blank_record
 
 -- The lanes by number: the link i's is i, that of those who wait for it table_size + i.
 abbrev pub lane_no : Side → ℕ → ℕ
-lane_no side.Road i = i
-lane_no side.Queue i = table_size + i
+lane_no Road i = i
+lane_no Queue i = table_size + i
 
-abbrev pub lane_at : Table → ℕ → Lane
+abbrev pub lane_at : Table → ℕ → Part
 lane_at table k = cond (nat_lt k table_size) (record_at table k).road (record_at table (k - table_size)).queue
 
-abbrev pub remarked : Lane → Mark → Lane
-remarked l m = record { start = l.start; size = l.size; mark = m }
+abbrev pub lane_in : LinkRecord → Side → Part
+lane_in r Road = r.road
+lane_in r Queue = r.queue
+
+abbrev pub with_lane : LinkRecord → Side → Part → LinkRecord
+with_lane r Road l = record { road = l; queue = r.queue; ons = r.ons; offs = r.offs; travel = r.travel }
+with_lane r Queue l = record { road = r.road; queue = l; ons = r.ons; offs = r.offs; travel = r.travel }
 
 -- what is known of a link apart from its vehicles
 pub record Gauge : Type 0 where
@@ -71,31 +61,20 @@ pub record Read (r : LinkRecord) (on off : ℕ) (time : Option ℕ) (r' : LinkRe
   pub queue : r'.queue ≡ r.queue
   pub noted : Noted (gauge_in r) on off time (gauge_in r')
 
-abbrev pub with_road : LinkRecord → Mark → LinkRecord
-with_road r m = record { road = remarked r.road m; queue = r.queue; ons = r.ons; offs = r.offs; travel = r.travel }
-
-abbrev pub with_queue : LinkRecord → Mark → LinkRecord
-with_queue r m = record { road = r.road; queue = remarked r.queue m; ons = r.ons; offs = r.offs; travel = r.travel }
-
--- what a change asks, and what it makes of a record
-abbrev pub Ready : LinkRecord → Change → Type 0
-Ready r (Road m) = Unit {0}
-Ready r (Queue m) = Unit {0}
-Ready r (Readings on off time) = Full r.ons × Full r.offs
-
-abbrev pub Applied : LinkRecord → Change → LinkRecord → Type 0
-Applied r (Road m) r' = r' ≡ with_road r m
-Applied r (Queue m) r' = r' ≡ with_queue r m
-Applied r (Readings on off time) r' = Read r on off time r'
-
-pub record Changed (t : Table) (i : ℕ) (change : Change) (t' : Table) : Type 0 where
-  pub here : Applied (record_at t i) change (record_at t' i)
+-- no other record has changed
+pub record Changed (t : Table) (i : ℕ) (t' : Table) : Type 0 where
   pub others : (k : ℕ) → k ≢ i → record_at t' k ≡ record_at t k
   pub whole : length t'.links ≡ length t.links
 
--- The lane k has the mark m, and all else is as it was.
-pub record Marked (t : Table) (k : ℕ) (m : Mark) (t' : Table) : Type 0 where
-  pub here : lane_at t' k ≡ remarked (lane_at t k) m
-  pub others : (l : ℕ) → l ≢ k → lane_at t' l ≡ lane_at t l
+-- The lane k is l now, and all else is as it was.
+pub record Marked (t : Table) (k : ℕ) (l : Part) (t' : Table) : Type 0 where
+  pub here : lane_at t' k ≡ l
+  pub others : (j : ℕ) → j ≢ k → lane_at t' j ≡ lane_at t j
   pub gauges : (i : ℕ) → gauge_in (record_at t' i) ≡ gauge_in (record_at t i)
   pub whole : length t'.links ≡ length t.links
+
+-- the lanes lie in an area of `wide` slots, one behind the other
+pub record Lies (wide : ℕ) (t : Table) : Type 0 where
+  pub whole : length t.links ≡ table_size
+  pub placed : (k : ℕ) → k < lane_count → (lane_at t k).start + (lane_at t k).size ≤ wide
+  pub apart : (j k : ℕ) → j < k → k < lane_count → (lane_at t j).start + (lane_at t j).size ≤ (lane_at t k).start

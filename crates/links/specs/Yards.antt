@@ -1,19 +1,15 @@
 -- What a yard holds, lane by lane, and what it has read, link by link.
 use Rattle.std.specs.Prelude.{◌≡◌, ℕ, ◌+◌, ◌<◌, ◌≤◌, ◌≢◌, ◌⊎◌, List, length, Option, slice_index_or}
-use Rattle.line.specs.Parts.{queue, Sound}
+use Rattle.line.specs.Parts.{queue}
 use Rattle.line.specs.Spots.{Spots, spots_in}
 use Rattle.newell.specs.declared.records.Vehicle.{Vehicle}
-use Rattle.links.specs.declared.records.Lane.{Lane}
 use Rattle.links.specs.declared.records.Yard.{Yard}
 use Rattle.links.specs.Readings.{Full}
-use Rattle.links.specs.Tables.{table_size, lane_count, lane_at, record_at, Gauge, gauge_in, Noted}
-
-abbrev pub in_lane : List Vehicle → Lane → List Vehicle
-in_lane area l = queue area l.start l.size l.mark
+use Rattle.links.specs.Tables.{table_size, lane_count, lane_at, record_at, Gauge, gauge_in, Noted, Lies}
 
 -- the vehicles of a lane, in order
 unfoldable pub holds : Yard → ℕ → List Vehicle
-holds y k = in_lane y.area.now (lane_at y.table k)
+holds y k = queue y.area.now (lane_at y.table k)
 
 unfoldable pub start_of : Yard → ℕ → ℕ
 start_of y k = (lane_at y.table k).start
@@ -23,18 +19,15 @@ size_of y k = (lane_at y.table k).size
 
 -- all slots of a lane, and where the next that comes will lie
 unfoldable pub spots_of : Yard → ℕ → Spots Vehicle
-spots_of y k = spots_in y.area.now (lane_at y.table k).start (lane_at y.table k).size (lane_at y.table k).mark
+spots_of y k = spots_in y.area.now (lane_at y.table k)
 
 -- the readings of a link, and the travel time of the last that left it
 abbrev pub gauge_of : Yard → ℕ → Gauge
 gauge_of y i = gauge_in (record_at y.table i)
 
--- the lanes lie in the area, one behind the other, and each mark fits its lane
-pub record Laid (y : Yard) : Type 0 where
-  pub whole : length y.table.links ≡ table_size
-  pub placed : (k : ℕ) → k < lane_count → (lane_at y.table k).start + (lane_at y.table k).size ≤ length y.area.now
-  pub sound : (k : ℕ) → k < lane_count → Sound (lane_at y.table k).size (lane_at y.table k).mark
-  pub apart : (j k : ℕ) → j < k → k < lane_count → (lane_at y.table j).start + (lane_at y.table j).size ≤ (lane_at y.table k).start
+-- the lanes lie in the area, one behind the other
+abbrev pub Laid : Yard → Type 0
+Laid y = Lies (length y.area.now) y.table
 
 -- the lanes lie where they lay, and no slot outside them has changed
 pub record Beyond (y y' : Yard) : Type 0 where

@@ -1,67 +1,73 @@
 // Changes of the table.
-ghost use Rattle.std.specs.Prelude.{◌≡◌, ◌<◌, length};
-ghost use Rattle.links.specs.Tables.{table_size, record_at, lane_at, lane_no, Ready, Applied, Changed, Marked};
+ghost use Rattle.std.specs.Prelude.{◌≡◌, ◌<◌};
+ghost use Rattle.std.specs.Fn.{FnOnceReturnsAtMut};
+ghost use Rattle.links.specs.Tables.{table_size, record_at, lane_in, with_lane, lane_at, lane_no, Read, Changed, Marked};
 
-use crate::records::{Change, Lane, LinkRecord, Side, Table};
-use line::Mark;
+use crate::records::{LinkRecord, Side, Table};
+use line::Part;
 
 impl LinkRecord {
-    fn apply(&mut self, change: Change)
-        requires { Ready self.old change }
-        ensures { Applied self.old change self.new }
+    // One of its two lanes.
+    fn lane(&self, side: Side) -> Part
+        ensures { result ≡ lane_in self.now side }
     {
-        match change {
-            Change::Road(mark) => self.road.mark = mark,
-            Change::Queue(mark) => self.queue.mark = mark,
-            Change::Readings { on, off, travel } => {
-                self.ons.note(on);
-                self.offs.note(off);
-                self.travel = travel;
-            }
+        match side {
+            Side::Road => self.road,
+            Side::Queue => self.queue,
         }
+    }
+
+    fn put_lane(&mut self, side: Side, lane: Part)
+        ensures { self.new ≡ with_lane self.old side lane }
+    {
+        match side {
+            Side::Road => self.road = lane,
+            Side::Queue => self.queue = lane,
+        }
+    }
+
+    fn note(&mut self, on: u32, off: u32, travel: Option<u32>)
+        ensures { Read self.old on off travel self.new }
+    {
+        self.ons.note(on);
+        self.offs.note(off);
+        self.travel = travel;
     }
 }
 
 impl Table {
-    // Every change of the table.
-    pub fn change(&mut self, i: usize, change: Change)
+    // Every change of the table: one record is lent for it.
+    pub fn change<R, F: FnOnce(&mut LinkRecord) -> R>(&mut self, i: usize, f: F) -> R
         requires here { i < table_size }
-        requires ready { Ready (record_at self.old i) change }
-        ensures { Changed self.old i change self.new }
+        requires ready { (link : _) → link.now ≡ record_at self.old i → F.pre f link }
+        ensures here { FnOnceReturnsAtMut F.FnOnce f (record_at self.old i) result (record_at self.new i) }
+        ensures rest { Changed self.old i self.new }
     {
-        self.links[i].apply(change);
+        f(&mut self.links[i])
     }
 
     // One of the two lanes of a link.
-    pub fn lane(&self, side: Side, i: usize) -> Lane
+    pub fn lane(&self, side: Side, i: usize) -> Part
         requires { i < table_size }
         ensures { result ≡ lane_at self.now (lane_no side i) }
     {
-        match side {
-            Side::Road => self.links[i].road,
-            Side::Queue => self.links[i].queue,
-        }
+        self.links[i].lane(side)
     }
 
-    // How many are in it.
-    pub fn count(&self, side: Side, i: usize) -> usize
+    // The lane is replaced.
+    pub fn put_lane(&mut self, side: Side, i: usize, lane: Part)
         requires { i < table_size }
-        ensures { result ≡ (lane_at self.now (lane_no side i)).mark.len }
+        ensures { Marked self.old (lane_no side i) lane self.new }
     {
-        match side {
-            Side::Road => self.links[i].road.mark.len,
-            Side::Queue => self.links[i].queue.mark.len,
-        }
+        self.change(i, |link| link.put_lane(side, lane))
     }
 
-    // The mark of a lane is replaced.
-    pub fn mark(&mut self, side: Side, i: usize, mark: Mark)
+    // The readings of a link are noted.
+    pub(crate) fn note(&mut self, i: usize, on: u32, off: u32, travel: Option<u32>)
         requires { i < table_size }
-        ensures { Marked self.old (lane_no side i) mark self.new }
+        ensures here { Read (record_at self.old i) on off travel (record_at self.new i) }
+        ensures rest { Changed self.old i self.new }
     {
-        match side {
-            Side::Road => self.change(i, Change::Road(mark)),
-            Side::Queue => self.change(i, Change::Queue(mark)),
-        }
+        self.change(i, |link| link.note(on, off, travel))
     }
 }

@@ -1,45 +1,55 @@
 // Readings: the newest comes, the oldest goes, and each is told by how many clocks ago it was taken.
-ghost use Rattle.std.specs.Prelude.{◌≡◌, ◌-◌, ◌≤◌, [], ◌∷◌, ◌++◌, Some};
-ghost use Rattle.std.specs.List.{slice_get};
+ghost use Rattle.std.specs.Prelude.{◌≡◌, ◌+◌, ◌-◌, ◌≤◌, [], ◌∷◌, ◌++◌, length};
 ghost use Rattle.line.specs.Ring.{rest};
-ghost use Rattle.links.specs.Readings.{Full, readings, back as ago, Next};
+ghost use Rattle.links.specs.Counts.{reading_count};
 
-use crate::records::{Curve, READINGS};
-use line::{look_in, push_in, take_in};
+use line::Part;
+
+// How many readings are kept of a curve.
+pub const READINGS: usize = 64;
+
+// The last readings, in a queue that has all the slots and is always full.
+#[derive(Clone, Copy)]
+pub struct Curve {
+    pub slots: [u32; READINGS],
+    pub oldest: usize,
+    ghost wide: { length slots ≡ reading_count },
+    ghost inside: { oldest ≤ reading_count },
+}
 
 impl Curve {
-    // The oldest reading's slot takes the newest.
-    fn turn(&mut self, x: u32)
-        requires { Full self.old }
-        ensures held { readings self.new ≡ rest (readings self.old) ++ x ∷ [] }
-        ensures full { Full self.new }
+    ghost use Rattle.links.specs.Readings.{readings, back as ago, Next};
+
+    // The queue of the readings. Only its head is kept: the rest of it is the same in all curves.
+    fn queue(&self) -> Part
+        ensures start { result.start ≡ 0 }
+        ensures size { result.size ≡ reading_count }
+        ensures head { result.head ≡ self.now.oldest }
+        ensures len { result.len ≡ reading_count }
     {
-        let _ = take_in(&mut self.slots, 0, READINGS, &mut self.mark);
-        let _ = push_in(&mut self.slots, 0, READINGS, &mut self.mark, x);
+        Part {
+            start: 0,
+            size: READINGS,
+            head: self.oldest,
+            len: READINGS,
+        }
     }
 
     // The newest reading comes, the oldest goes.
     pub(crate) fn note(&mut self, x: u32)
-        requires { Full self.old }
         ensures { Next self.old x self.new }
     {
-        self.turn(x);
-    }
-
-    fn read(&self, k: usize) -> u32
-        requires full { Full self.now }
-        requires near { k ≤ 63 }
-        ensures { Some result ≡ slice_get (readings self.now) (63 - k) }
-    {
-        look_in(&self.slots, 0, READINGS, self.mark, READINGS - 1 - k)
+        let mut queue = self.queue();
+        let _ = queue.take(&mut self.slots);
+        queue.push(&mut self.slots, x).unwrap();
+        self.oldest = queue.head;
     }
 
     // The reading of so many clocks ago.
     pub(crate) fn back(&self, k: usize) -> u32
-        requires full { Full self.now }
         requires near { k ≤ 63 }
         ensures { result ≡ ago self.now k }
     {
-        self.read(k)
+        self.queue().look(&self.slots, READINGS - 1 - k)
     }
 }

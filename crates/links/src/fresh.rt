@@ -1,23 +1,11 @@
 // Records of a run just opened: no vehicles, all readings 0.
 ghost use Rattle.std.specs.Prelude.{◌≡◌};
-ghost use Rattle.links.specs.Tables.{fresh_lane, fresh_curve, fresh_record};
+ghost use Rattle.links.specs.Tables.{fresh_curve, fresh_record};
 
-use crate::records::{Curve, Lane, LinkRecord, READINGS, Table};
-use line::Mark;
+use crate::curve::{Curve, READINGS};
+use crate::records::{LinkRecord, Table};
+use line::Part;
 use network::LINKS;
-
-impl Lane {
-    // An empty lane of `size` slots.
-    pub fn new(start: usize, size: usize) -> Lane
-        ensures { result ≡ fresh_lane start size }
-    {
-        Lane {
-            start,
-            size,
-            mark: Mark { head: 0, len: 0 },
-        }
-    }
-}
 
 impl Curve {
     // All readings 0.
@@ -26,16 +14,13 @@ impl Curve {
     {
         Curve {
             slots: [0; READINGS],
-            mark: Mark {
-                head: 0,
-                len: READINGS,
-            },
+            oldest: 0,
         }
     }
 }
 
 impl LinkRecord {
-    pub fn new(road: Lane, queue: Lane) -> LinkRecord
+    pub fn new(road: Part, queue: Part) -> LinkRecord
         ensures { result ≡ fresh_record road queue }
     {
         LinkRecord {

@@ -4,8 +4,8 @@
 mod change;
 mod curve;
 mod fresh;
-mod lane;
 pub mod records;
 mod yard;
 
-pub use records::{Change, Curve, Lane, LinkRecord, READINGS, Side, Table, Yard};
+pub use curve::{Curve, READINGS};
+pub use records::{LinkRecord, Side, Table, Yard};

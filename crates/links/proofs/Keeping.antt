@@ -1,0 +1,52 @@
+-- What every curve and every yard keeps.
+use Rattle.std.proofs.Common.{◌≡◌, ℕ, length, sym, ap, ◌∙◌, subst, ⊎_elim, arith}
+use mathlib.Core.Logic.{∥∥₁_elim}
+use native.Mathlib.Nat.{ℕ_set}
+use native.Mathlib.Bridge.{le_prop}
+use Rattle.std.proofs.lemmas.Bool.{cases_eq}
+use Rattle.links.specs.declared.curve.Curve.{Curve}
+use Rattle.links.specs.declared.records.Table.{Table}
+use Rattle.links.specs.declared.records.Yard.{Yard}
+use Rattle.links.specs.Readings.{Full}
+use Rattle.line.specs.declared.shape.Part.{Part}
+use Rattle.links.specs.Tables.{lane_at, Lies, Marked}
+use Rattle.links.specs.Yards.{Laid, AllFull}
+
+pub full_of : (c : Curve) → Full c
+full_of c = record { wide = c.wide; inside = c.inside }
+
+pub lies_prop : (wide : ℕ) (t : Table) → IsProp (Lies wide t)
+lies_prop wide t a b = λ z. record {
+  whole = ℕ_set _ _ a.whole b.whole z;
+  placed = λ k l. le_prop (a.placed k l) (b.placed k l) z;
+  apart = λ j k l h. le_prop (a.apart j k l h) (b.apart j k l h) z;
+}
+
+pub laid_of : (y : Yard) → Laid y
+laid_of y = ∥∥₁_elim y.laid (lies_prop (length y.area.now) y.table) (λ l. l)
+
+pub all_full : (y : Yard) → AllFull y
+all_full y = record { whole = (laid_of y).whole; ons = λ i l. full_of _; offs = λ i l. full_of _ }
+
+-- lanes that lie where they lay
+pub lies_on : (w w' : ℕ) (t t' : Table) → Lies w t → w' ≡ w → length t'.links ≡ length t.links
+    → ((j : ℕ) → (lane_at t' j).start ≡ (lane_at t j).start) → ((j : ℕ) → (lane_at t' j).size ≡ (lane_at t j).size) → Lies w' t'
+lies_on w w' t t' l wide whole starts sizes = record {
+  whole = whole ∙ l.whole;
+  placed = λ k h. omega (arith, l.placed k h, wide, starts k, sizes k);
+  apart = λ j k lt h. omega (arith, l.apart j k lt h, starts j, sizes j, starts k);
+}
+
+-- the lane k, read out as p, is put back in the same place
+module _ (t t' : Table) (k : ℕ) (p l : Part) (read : p ≡ lane_at t k) (put_in : Marked t k l t') (start : l.start ≡ p.start) (size : l.size ≡ p.size) where
+  as_read : {A : Type 0} (f : Part → A) → f l ≡ f p → (j : ℕ) → f (lane_at t' j) ≡ f (lane_at t j)
+  as_read f e j = ⊎_elim (λ (q : j ≡ k). subst (λ i. f (lane_at t' i) ≡ f (lane_at t i)) (sym q) (ap f put_in.here ∙ e ∙ ap f read)) (λ ne. ap f (put_in.others j ne)) (cases_eq j k)
+
+  pub starts_kept : (j : ℕ) → (lane_at t' j).start ≡ (lane_at t j).start
+  starts_kept = as_read (λ (x : Part). x.start) start
+
+  pub sizes_kept : (j : ℕ) → (lane_at t' j).size ≡ (lane_at t j).size
+  sizes_kept = as_read (λ (x : Part). x.size) size
+
+  pub lies_put : (w w' : ℕ) → Lies w t → w' ≡ w → Lies w' t'
+  lies_put w w' lies wide = lies_on w w' t t' lies wide put_in.whole starts_kept sizes_kept
