@@ -1,5 +1,5 @@
 -- The first of a list.
-use Rattle.std.proofs.Common.{◌≡◌, ℕ, ◌<◌, List, [], ◌∷◌, ◌++◌, length, take, drop, Some, None, sym, ap, ◌∙◌, arith}
+use Rattle.std.proofs.Common.{◌≡◌, ℕ, List, [], ◌∷◌, ◌++◌, take, drop, Some, sym, ap, ◌∙◌, arith}
 use Rattle.std.proofs.lemmas.List.{same_lists, places}
 use Rattle.line.specs.Ring.{first, rest}
 use Rattle.newell.specs.declared.records.Vehicle.{Vehicle}
@@ -19,7 +19,3 @@ take_drop n xs = same_lists _ _ (grind (arith, places)) (λ k d h. grind (arith,
 -- what is left behind the first n
 pub front : (n : ℕ) (xs ys : List Vehicle) → xs ≡ take n xs ++ ys → ys ≡ drop n xs
 front n xs ys e = cancel (take n xs) ys (drop n xs) (sym e ∙ sym (take_drop n xs))
-
-pub none_leads : (vs : List Vehicle) → None ≡ first vs → 0 < length vs → ⊥
-none_leads [] e h = omega arith
-none_leads (w ∷ ws) e h = let z : ◌≡◌ {A = ℕ} 0 1 = cc in omega arith

@@ -9,19 +9,16 @@ use Rattle.newell.specs.History.{final}
 use Rattle.links.specs.declared.records.Yard.{Yard}
 use Rattle.line.specs.Spots.{wrote, written}
 use Rattle.line.proofs.Writing.{written_append}
-use Rattle.links.specs.Yards.{holds, spots_of, size_of, Laid, Put}
+use Rattle.links.specs.Yards.{holds, spots_of, size_of, Put}
+use Rattle.links.proofs.Keeping.{laid_of}
 use Rattle.links.proofs.Spacing.{beyond_none, beyond_more}
-use Rattle.flow.specs.Flows.{going, taking, stamped, nobody, leader, lasted, time_of, Roomy, Came, Gone, Sent}
+use Rattle.flow.specs.Flows.{going, taking, stamped, nobody, leader, lasted, time_of, Came, Gone, Sent}
 use Rattle.flow.proofs.Fronts.{led}
 use Rattle.flow.proofs.Going.{stamped_append, stamped_none, stamped_one, stamped_length, going_nil, going_append, going_one, taking_some, taking_not, room_one}
 
-pub roomy_of : (y : Yard) (o : Option ℕ) → ((j : ℕ) → o ≡ Some j → (j < 48) × (length (holds y j) < size_of y j)) → Roomy o y
-roomy_of y None f = tt
-roomy_of y (Some j) f = f j refl
-
 module _ (net : Net) (t i : ℕ) where
-  pub gone_none : (x : ℕ) (y : Yard) → None ≡ next net i x → Laid y → Gone net t i x y y
-  gone_none x y e laid = record {
+  pub gone_none : (x : ℕ) (y : Yard) → None ≡ next net i x → Gone net t i x y y
+  gone_none x y e = record {
     to = λ j l. let no : next net i x ≡ Some j → ⊥ = λ f. (let z : ◌≡◌ {A = ℕ} 0 1 = cc in omega arith) in
         sym (ap (λ vs. holds y j ++ vs) (stamped_none t _ (taking_not net i j x no)) ∙ append-nil (holds y j));
     spots = λ j l. let no : next net i x ≡ Some j → ⊥ = λ f. (let z : ◌≡◌ {A = ℕ} 0 1 = cc in omega arith) in
@@ -29,7 +26,7 @@ module _ (net : Net) (t i : ℕ) where
     beyond = beyond_none y;
     sizes = λ l. refl;
     gauges = λ l. refl;
-    laid = laid;
+    laid = laid_of y;
     same = refl;
   }
 
@@ -55,9 +52,9 @@ module _ (net : Net) (t i : ℕ) where
     same = p.same;
   }
 
-  pub gone_of : (x : ℕ) (y y' : Yard) (o : Option ℕ) → o ≡ next net i x → Laid y → Came o t x y y' → Gone net t i x y y'
-  gone_of x y y' None e laid c = subst (λ z. Gone net t i x y z) (sym c) (gone_none x y e laid)
-  gone_of x y y' (Some j) e laid c = gone_some x j y y' e c.0 c.1
+  pub gone_of : (x : ℕ) (y y' : Yard) (o : Option ℕ) → o ≡ next net i x → Came o t x y y' → Gone net t i x y y'
+  gone_of x y y' None e c = subst (λ z. Gone net t i x y z) (sym c) (gone_none x y e)
+  gone_of x y y' (Some j) e c = gone_some x j y y' e c.0 c.1
 
   pub leads : (vs : List Vehicle) (v : Vehicle) → Some v ≡ first vs → v ≡ leader vs
   leads vs v e = (led vs v e).0
@@ -88,8 +85,8 @@ module _ (net : Net) (t i : ℕ) where
       stay : holds y₂ i ≡ holds y₁ i
       stay = g.to i b ∙ ap (λ ws. holds y₁ i ++ ws) nobody_back ∙ append-nil (holds y₁ i)
 
-  pub sent_none : (y : Yard) → Laid y → Sent net t i [] y y
-  sent_none y laid = record {
+  pub sent_none : (y : Yard) → Sent net t i [] y y
+  sent_none y = record {
     from = refl;
     to = λ j l ne. sym (ap (λ vs. holds y j ++ vs) (stamped_none t _ (going_nil net i j)) ∙ append-nil (holds y j));
     stay = refl;
@@ -97,7 +94,7 @@ module _ (net : Net) (t i : ℕ) where
     beyond = beyond_none y;
     sizes = λ l. refl;
     gauges = λ l. refl;
-    laid = laid;
+    laid = laid_of y;
     same = refl;
   }
 
@@ -122,9 +119,6 @@ module _ (net : Net) (t i : ℕ) where
   module _ (y y₁ : Yard) (m n : ℕ) (low : m < n) (high : n ≤ length (holds y i)) (s : Sent net t i (take m (holds y i)) y y₁) where
     wide : length (take m (holds y i)) ≡ m
     wide = length-take-le m (holds y i) (omega arith)
-
-    pub left_some : 0 < length (holds y₁ i)
-    left_some = omega (arith, ap length s.from, length-append (take m (holds y i)) (holds y₁ i), wide)
 
     pub left_leader : leader (holds y₁ i) ≡ get_or (holds y i) m nobody
     left_leader = sym (ap (λ (vs : List Vehicle). get_or vs m nobody) s.from ∙ get_or-append_right (take m (holds y i)) (holds y₁ i) m m nobody wide (omega arith) ∙ ap (λ k. get_or (holds y₁ i) k nobody) (omega arith))

@@ -9,7 +9,8 @@ use Rattle.newell.specs.declared.records.Vehicle.{Vehicle}
 use Rattle.links.specs.declared.records.Yard.{Yard}
 use Rattle.line.specs.Spots.{wrote, written}
 use Rattle.line.proofs.Writing.{written_append}
-use Rattle.links.specs.Yards.{holds, spots_of, size_of, Laid, Put}
+use Rattle.links.specs.Yards.{holds, spots_of, size_of, Put}
+use Rattle.links.proofs.Keeping.{laid_of}
 use Rattle.links.proofs.Spacing.{beyond_none, beyond_more}
 use Rattle.flow.specs.Flows.{stamped, exits, nobody, leader, up_to, Pulled, PulledAll}
 use Rattle.flow.proofs.Going.{stamped_append, stamped_none, stamped_one, stamped_length}
@@ -51,8 +52,8 @@ module _ (t j : ℕ) (b : j < 48) where
         same = q.same ∙ p.same;
       }
 
-  pub pulled_none : (y : Yard) → Laid y → Pulled t j [] y y
-  pulled_none y laid = record {
+  pub pulled_none : (y : Yard) → Pulled t j [] y y
+  pulled_none y = record {
     from = refl;
     on = sym (ap (λ vs. holds y j ++ vs) (stamped_none t _ exits_nil) ∙ append-nil (holds y j));
     others = λ l h a c. refl;
@@ -61,7 +62,7 @@ module _ (t j : ℕ) (b : j < 48) where
     beyond = beyond_none y;
     sizes = λ l. refl;
     gauges = λ l. refl;
-    laid = laid;
+    laid = laid_of y;
     same = refl;
   }
 
@@ -85,9 +86,6 @@ module _ (t j : ℕ) (b : j < 48) where
     wide : length (take m (holds y (48 + j))) ≡ m
     wide = length-take-le m (holds y (48 + j)) (omega arith)
 
-    pub pull_some : 0 < length (holds y₁ (48 + j))
-    pull_some = omega (arith, ap length s.from, length-append (take m (holds y (48 + j))) (holds y₁ (48 + j)), wide)
-
     pub pull_room : length (holds y j) + n ≤ size_of y j → length (holds y₁ j) < size_of y₁ j
     pull_room r = omega (arith, r, s.sizes j, ap length s.on, length-append (holds y j) (stamped t (exits (take m (holds y (48 + j))))), stamped_length t (exits (take m (holds y (48 + j)))), exits_length (take m (holds y (48 + j))), wide)
 
@@ -101,8 +99,8 @@ module _ (t : ℕ) (k : ℕ → ℕ) where
   zero_up : (j : ℕ) → up_to 0 j (k j) ≡ 0
   zero_up j = ap (λ b. cond b (k j) 0) (le-ltb j 0 (omega arith))
 
-  pub pulls_none : (y : Yard) → Laid y → PulledAll t k 0 y y
-  pulls_none y laid = record {
+  pub pulls_none : (y : Yard) → PulledAll t k 0 y y
+  pulls_none y = record {
     from = λ j l. sym (ap (λ n. drop n (holds y (48 + j))) (zero_up j));
     on = λ j l. sym (ap (λ vs. holds y j ++ vs) (stamped_none t _ (ap (λ n. exits (take n (holds y (48 + j)))) (zero_up j) ∙ exits_nil)) ∙ append-nil (holds y j));
     spots = λ j l. sym (ap (written (spots_of y j)) (stamped_none t _ (ap (λ n. exits (take n (holds y (48 + j)))) (zero_up j) ∙ exits_nil)));
@@ -110,7 +108,7 @@ module _ (t : ℕ) (k : ℕ → ℕ) where
     beyond = beyond_none y;
     sizes = λ l. refl;
     gauges = λ l. refl;
-    laid = laid;
+    laid = laid_of y;
     same = refl;
   }
 

@@ -1,11 +1,11 @@
 -- Those that are booked.
-use Rattle.std.proofs.Common.{◌≡◌, ℕ, zero, suc, ◌+◌, ◌<◌, ◌≤◌, [], ◌∷◌, ◌++◌, length, replicate, sym, refl, ap, ◌∙◌, append_assoc, append-nil, add-one, arith, length-append}
-use lib.ListN.{length-replicate}
+use Rattle.std.proofs.Common.{◌≡◌, ℕ, zero, suc, ◌+◌, [], ◌∷◌, ◌++◌, replicate, sym, refl, ap, ◌∙◌, append_assoc, append-nil, add-one}
 use Rattle.newell.specs.declared.records.Vehicle.{Vehicle}
 use Rattle.links.specs.declared.records.Yard.{Yard}
 use Rattle.line.specs.Spots.{wrote, written}
 use Rattle.line.proofs.Writing.{written_append}
-use Rattle.links.specs.Yards.{holds, spots_of, size_of, Laid, Put}
+use Rattle.links.specs.Yards.{holds, spots_of, Put}
+use Rattle.links.proofs.Keeping.{laid_of}
 use Rattle.links.proofs.Spacing.{beyond_none, beyond_more}
 
 snoc : (n : ℕ) (v : Vehicle) → replicate n v ++ v ∷ [] ≡ replicate (suc n) v
@@ -16,13 +16,19 @@ module _ (k : ℕ) (v : Vehicle) where
   one_more : (m : ℕ) → replicate m v ++ v ∷ [] ≡ replicate (m + 1) v
   one_more m = snoc m v ∙ ap (λ q. replicate q v) (sym (add-one m))
 
-  pub put_none : (y : Yard) → Laid y → Put y y k (holds y k ++ replicate 0 v)
-  put_none y laid = record { here = sym (append-nil (holds y k)); others = λ l h ne. refl; spots = λ l h ne. refl; beyond = beyond_none y; sizes = λ l. refl; gauges = λ l. refl; laid = laid; same = refl }
+  pub put_none : (y : Yard) → Put y y k (holds y k ++ replicate 0 v)
+  put_none y = record {
+    here = sym (append-nil (holds y k));
+    others = λ l h ne. refl;
+    spots = λ l h ne. refl;
+    beyond = beyond_none y;
+    sizes = λ l. refl;
+    gauges = λ l. refl;
+    laid = laid_of y;
+    same = refl;
+  }
 
-  module _ (y y₁ : Yard) (m n : ℕ) (low : m < n) (s : Put y y₁ k (holds y k ++ replicate m v)) where
-    pub put_room : length (holds y k) + n ≤ size_of y k → length (holds y₁ k) < size_of y₁ k
-    put_room r = omega (arith, r, s.sizes k, ap length s.here, length-append (holds y k) (replicate m v), length-replicate m v)
-
+  module _ (y y₁ : Yard) (m : ℕ) (s : Put y y₁ k (holds y k ++ replicate m v)) where
     pub put_more : (y₂ : Yard) → Put y₁ y₂ k (holds y₁ k ++ v ∷ []) → Put y y₂ k (holds y k ++ replicate (m + 1) v)
     put_more y₂ p = record {
       here = p.here ∙ ap (λ vs. vs ++ v ∷ []) s.here ∙ append_assoc (holds y k) (replicate m v) (v ∷ []) ∙ ap (λ vs. holds y k ++ vs) (one_more m);

@@ -9,7 +9,8 @@ use Rattle.newell.specs.History.{final}
 use Rattle.links.specs.declared.records.Yard.{Yard}
 use Rattle.line.specs.Spots.{written}
 use Rattle.line.proofs.Writing.{written_append}
-use Rattle.links.specs.Yards.{holds, spots_of, size_of, Laid}
+use Rattle.links.specs.Yards.{holds, spots_of, size_of}
+use Rattle.links.proofs.Keeping.{laid_of}
 use Rattle.links.proofs.Spacing.{beyond_none, beyond_more}
 use Rattle.flow.specs.Flows.{going, stamped, nobody, lasted, Sent, came_by, up_to, SentAll, Sendable}
 use Rattle.flow.proofs.Going.{stamped_append, stamped_none, stamped_length, going_nobody}
@@ -20,15 +21,15 @@ came_grows net on k j i (suc d) = rw suc-add (let h = came_grows net on k j i d 
     omega (arith, h, length-append (came_by net on k (d + i) j) (going net (d + i) j (take (k (d + i)) (on (d + i))))))
 
 module _ (net : Net) (t : ℕ) (k : ℕ → ℕ) where
-  pub all_none : (y : Yard) → Laid y → SentAll net t k 0 y y
-  all_none y laid = record {
+  pub all_none : (y : Yard) → SentAll net t k 0 y y
+  all_none y = record {
     to = λ j l. let e : up_to 0 j (k j) ≡ 0 = ap (λ b. cond b (k j) 0) (le-ltb j 0 (omega arith)) in
         sym (ap₂ (λ n vs. drop n (holds y j) ++ vs) e (stamped_none t [] refl) ∙ append-nil (holds y j));
     spots = λ j l. sym (ap (written (spots_of y j)) (stamped_none t [] refl));
     beyond = beyond_none y;
     sizes = λ l. refl;
     gauges = λ l. refl;
-    laid = laid;
+    laid = laid_of y;
     same = refl;
   }
 

@@ -54,7 +54,6 @@ module _ (net : Net) (t : ℕ) (r k : ℕ → ℕ) (y y₁ : Yard) (few : net.li
 
   pub sendable : Sendable net t k y₁
   sendable = record {
-    laid = p.laid;
     enough = λ i l. omega (arith, ask.enough i l, ap length (come i l), length-append (holds y i) (stamped t (exits (take (r i) (holds y (48 + i))))));
     past = λ i q l h. subst (λ (v : Vehicle). v.since ≤ t) (sym (ap (λ (vs : List Vehicle). get_or vs q nobody) (come i l) ∙ get_or_append_left (holds y i) _ nobody q (omega (arith, ask.enough i l)))) (ask.past i q l h);
     room = λ j l. ⊎_elim

@@ -92,7 +92,6 @@ pub record SentAll (net : Net) (t : ℕ) (k : ℕ → ℕ) (n : ℕ) (y y' : Yar
 
 -- what sending asks: each holds as many as it sends, all came on by t, and there is room for those that come
 pub record Sendable (net : Net) (t : ℕ) (k : ℕ → ℕ) (y : Yard) : Type 0 where
-  pub laid : Laid y
   pub enough : (i : ℕ) → i < net.links → k i ≤ length (holds y i)
   pub past : (i q : ℕ) → i < net.links → q < k i → (get_or (holds y i) q nobody).since ≤ t
   pub room : (j : ℕ) → j < lane_count → length (holds y j) + length (came_by net (holds y) k net.links j) ≤ size_of y j
@@ -141,7 +140,6 @@ pub record Shifted (net : Net) (t : ℕ) (r k : ℕ → ℕ) (y y' : Yard) : Typ
   pub same : y'.area.ghost_name ≡ y.area.ghost_name
 
 pub record Shiftable (net : Net) (t : ℕ) (r k : ℕ → ℕ) (y : Yard) : Type 0 where
-  pub laid : Laid y
   pub enough : (i : ℕ) → i < net.links → k i ≤ length (holds y i)
   pub past : (i q : ℕ) → i < net.links → q < k i → (get_or (holds y i) q nobody).since ≤ t
   pub room : (j : ℕ) → j < net.links → length (holds y j) + (length (take (r j) (holds y (table_size + j))) + length (came_by net (holds y) k net.links j)) ≤ size_of y j

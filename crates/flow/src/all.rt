@@ -6,6 +6,7 @@ ghost use Rattle.links.specs.Yards.{holds};
 ghost use Rattle.flow.specs.Flows.{Sendable, SentAll, lasted};
 
 use crate::pass::send;
+use crate::tick::Tick;
 use links::Yard;
 use network::Network;
 
@@ -14,18 +15,18 @@ pub(crate) fn send_all(
     yard: &mut Yard,
     net: &Network,
     outs: &[u16],
-    t: u32,
+    t: Tick,
     times: &mut [Option<u32>],
 )
-    requires early { t < 1000000 }
     requires outs { (net_of net.now).links ≤ length outs.now }
     requires times { (net_of net.now).links ≤ length times.old }
-    requires sendable { Sendable (net_of net.now) t (λ i. slice_index outs.now i) yard.old }
-    ensures sent { SentAll (net_of net.now) t (λ i. slice_index outs.now i) (net_of net.now).links yard.old yard.new }
-    ensures time { (i : ℕ) → i < (net_of net.now).links → slice_index_or times.new i None ≡ lasted t (final (taken (slice_index outs.now i) (holds yard.old i))) }
+    requires sendable { Sendable (net_of net.now) t.clock (λ i. slice_index outs.now i) yard.old }
+    ensures sent { SentAll (net_of net.now) t.clock (λ i. slice_index outs.now i) (net_of net.now).links yard.old yard.new }
+    ensures time { (i : ℕ) → i < (net_of net.now).links → slice_index_or times.new i None ≡ lasted t.clock (final (taken (slice_index outs.now i) (holds yard.old i))) }
     ensures beyond { (i : ℕ) → (net_of net.now).links ≤ i → slice_index_or times.new i None ≡ slice_index_or times.old i None }
 {
-    for i in 0..net.links() {
-        times[i] = send(yard, net, i, outs[i] as usize, t);
+    for (i, time) in times[..net.links()].iter_mut().enumerate() {
+        // By place: a zip runs by the iterator, and nothing is known then of what was written through it.
+        *time = send(yard, net, i, usize::from(outs[i]), t);
     }
 }

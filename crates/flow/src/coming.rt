@@ -3,46 +3,41 @@ ghost use Rattle.std.specs.Prelude.{◌≡◌, ℕ, ◌+◌, ◌-◌, ◌<◌, �
 ghost use Rattle.network.specs.Net.{next as next_of};
 ghost use Rattle.network.specs.Nets.{net_of};
 ghost use Rattle.links.specs.Tables.{table_size};
-ghost use Rattle.links.specs.Yards.{holds, Laid};
+ghost use Rattle.links.specs.Yards.{holds};
 ghost use Rattle.flow.specs.Flows.{nobody, time_of, arrived, Roomy, Came};
 
+use crate::tick::Tick;
 use links::{Side, Yard};
 use network::Network;
 use newell::Vehicle;
 
 // A vehicle for the exit `x` that comes on a link in the step from `t`.
-pub(crate) fn arriving(x: u8, t: u32) -> Vehicle
-    requires { t < 1000000 }
-    ensures { result ≡ arrived t x }
+pub(crate) fn arriving(x: u8, t: Tick) -> Vehicle
+    ensures { result ≡ arrived t.clock x }
 {
     Vehicle {
         exit: x,
-        since: t + 1,
+        since: t.next(),
     }
 }
 
 // How long a vehicle that leaves in the step from `t` was on its link.
-fn time_on(v: Vehicle, t: u32) -> u32
-    requires early { t < 1000000 }
-    requires past { v.since ≤ t }
-    ensures { result ≡ t + 1 - v.since }
+fn time_on(v: Vehicle, t: Tick) -> u32
+    requires past { v.since ≤ t.clock }
+    ensures { result ≡ t.clock + 1 - v.since }
 {
-    t + 1 - v.since
+    t.next() - v.since
 }
 
 // How long the nth of a link was on it, where the first `n` leave in the step from `t`.
-pub(crate) fn last_time(yard: &Yard, i: usize, n: usize, t: u32) -> Option<u32>
+pub(crate) fn last_time(yard: &Yard, i: usize, n: usize, t: Tick) -> Option<u32>
     requires link { i < table_size }
-    requires laid { Laid yard.now }
-    requires early { t < 1000000 }
     requires enough { n ≤ length (holds yard.now i) }
-    requires past { (k : ℕ) → k < n → (slice_index_or (holds yard.now i) k nobody).since ≤ t }
-    ensures { result ≡ time_of t n (holds yard.now i) }
+    requires past { (k : ℕ) → k < n → (slice_index_or (holds yard.now i) k nobody).since ≤ t.clock }
+    ensures { result ≡ time_of t.clock n (holds yard.now i) }
 {
-    if n == 0 {
-        return None;
-    }
-    let v = yard.look(Side::Road, i, n - 1);
+    let last = n.checked_sub(1)?;
+    let v = yard.look(Side::Road, i, last);
     Some(time_on(v, t))
 }
 
@@ -50,29 +45,24 @@ pub(crate) fn last_time(yard: &Yard, i: usize, n: usize, t: u32) -> Option<u32>
 pub(crate) fn coming(waiting: usize, take: u16) -> usize
     ensures { result ≡ least waiting take }
 {
-    waiting.min(take as usize)
+    waiting.min(usize::from(take))
 }
 
 // A vehicle for the exit `x` comes on the link `next`, if there is one.
-fn come(yard: &mut Yard, next: Option<usize>, x: u8, t: u32)
-    requires laid { Laid yard.old }
-    requires early { t < 1000000 }
+fn come(yard: &mut Yard, next: Option<usize>, x: u8, t: Tick)
     requires room { Roomy next yard.old }
-    ensures { Came next t x yard.old yard.new }
+    ensures { Came next t.clock x yard.old yard.new }
 {
-    match next {
-        None => {}
-        Some(j) => yard.push(Side::Road, j, arriving(x, t)),
+    if let Some(j) = next {
+        yard.push(Side::Road, j, arriving(x, t));
     }
 }
 
 // A vehicle for the exit `x` that has left the link `i` comes on the link after it.
-pub(crate) fn go_on(yard: &mut Yard, net: &Network, i: usize, x: u8, t: u32)
+pub(crate) fn go_on(yard: &mut Yard, net: &Network, i: usize, x: u8, t: Tick)
     requires link { i < (net_of net.now).links }
-    requires laid { Laid yard.old }
-    requires early { t < 1000000 }
     requires room { Roomy (next_of (net_of net.now) i x) yard.old }
-    ensures { Came (next_of (net_of net.now) i x) t x yard.old yard.new }
+    ensures { Came (next_of (net_of net.now) i x) t.clock x yard.old yard.new }
 {
     come(yard, net.next(i, x), x, t);
 }

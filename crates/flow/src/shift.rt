@@ -7,6 +7,7 @@ ghost use Rattle.flow.specs.Flows.{Shiftable, Shifted, lasted};
 
 use crate::all::send_all;
 use crate::pull::pull_all;
+use crate::tick::Tick;
 use links::Yard;
 use network::Network;
 
@@ -16,16 +17,15 @@ pub fn shift(
     net: &Network,
     takes: &[u16],
     outs: &[u16],
-    t: u32,
+    t: Tick,
     times: &mut [Option<u32>],
 )
-    requires early { t < 1000000 }
     requires takes { (net_of net.now).links ≤ length takes.now }
     requires outs { (net_of net.now).links ≤ length outs.now }
     requires times { (net_of net.now).links ≤ length times.old }
-    requires shiftable { Shiftable (net_of net.now) t (λ i. slice_index takes.now i) (λ i. slice_index outs.now i) yard.old }
-    ensures shifted { Shifted (net_of net.now) t (λ i. slice_index takes.now i) (λ i. slice_index outs.now i) yard.old yard.new }
-    ensures time { (i : ℕ) → i < (net_of net.now).links → slice_index_or times.new i None ≡ lasted t (final (taken (slice_index outs.now i) (holds yard.old i))) }
+    requires shiftable { Shiftable (net_of net.now) t.clock (λ i. slice_index takes.now i) (λ i. slice_index outs.now i) yard.old }
+    ensures shifted { Shifted (net_of net.now) t.clock (λ i. slice_index takes.now i) (λ i. slice_index outs.now i) yard.old yard.new }
+    ensures time { (i : ℕ) → i < (net_of net.now).links → slice_index_or times.new i None ≡ lasted t.clock (final (taken (slice_index outs.now i) (holds yard.old i))) }
     ensures beyond { (i : ℕ) → (net_of net.now).links ≤ i → slice_index_or times.new i None ≡ slice_index_or times.old i None }
 {
     pull_all(yard, net.links(), takes, t);

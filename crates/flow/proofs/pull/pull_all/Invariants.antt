@@ -3,4 +3,4 @@ use Rattle.flow.specs.Flows.{PulledAll}
 use Rattle.flow.proofs.pull.pull_all.Given as goal
 
 abbrev pub invariant-loop-j : goal.invariant-loop-j
-invariant-loop-j l = PulledAll l.t (λ j. get_or l.takes j 0) l.j l.initial.yard l.yard
+invariant-loop-j l = PulledAll l.t.clock (λ j. get_or l.takes j 0) l.j l.initial.yard l.yard
