@@ -21,14 +21,6 @@ head : (x y : ℕ) (xs ys : List ℕ) → x ∷ xs ≡ y ∷ ys → x ≡ y
 head x y xs ys e = cc
 
 module _ (net : Net) (r : RunNow) (m : Meaning) (k : ℕ → ℕ) (n : ℕ) where
-  pub passes_entrance : entering net n ≡ [] → Passes net r m k n
-  passes_entrance e = record {
-    exit = λ i f g. absurd (clash i [] (sym e ∙ f));
-    mainline = λ i j f g. absurd (clash i [] (sym e ∙ f));
-    merge = λ i i' j f g. absurd (clash i (i' ∷ []) (sym e ∙ f));
-    diverge = λ i j j' f g. absurd (clash i [] (sym e ∙ f));
-  }
-
   pub passes_exit : (i : ℕ) → entering net n ≡ i ∷ [] → leaving net n ≡ [] → k i ≡ sends net r i → Passes net r m k n
   passes_exit i e l h = record {
     exit = λ i' f g. subst (λ q. k q ≡ sends net r q) (head i i' [] [] (sym e ∙ f)) h;
@@ -93,9 +85,6 @@ module _ (net : Net) (r : RunNow) (n : ℕ) (m : Meaning) where
 
   pub asked_one : (i : ℕ) → entering net n ≡ i ∷ [] → AskedAt net r n m m
   asked_one i e = asked_none (λ x x' y f. one_two i x x' [] (sym e ∙ f.0))
-
-  pub asked_zero : entering net n ≡ [] → AskedAt net r n m m
-  asked_zero e = asked_none (λ x x' y f. clash x (x' ∷ []) (sym e ∙ f.0))
 
   pub asked_merge : (i i' j : ℕ) (m' : Meaning) → entering net n ≡ i ∷ i' ∷ [] → leaving net n ≡ j ∷ [] → m' ≡ after m n (asks net r i i' j) → AskedAt net r n m m'
   asked_merge i i' j m' e l eq = let b = behind m m' n (asks net r i i' j) eq in record {

@@ -1,6 +1,5 @@
 // What a link may send and may take in a step.
 ghost use Rattle.std.specs.Prelude.{◌≡◌, ℕ, ◌+◌, ◌-◌, ◌<◌, ◌≤◌, length, slice_index};
-ghost use Rattle.links.specs.Yards.{AllFull};
 ghost use Rattle.network.specs.Nets.{net_of};
 ghost use Rattle.plan.specs.View.{sends_of, takes_of, Readable};
 
@@ -10,36 +9,33 @@ use network::Network;
 // What the link `i` may send: those past their free steps, as many as its capacity lets by.
 pub fn may_send(net: &Network, yard: &Yard, i: usize) -> u16
     requires here { i < (net_of net.now).links }
-    requires full { AllFull yard.now }
     requires safe { Readable (net_of net.now) yard.now i }
     ensures { result ≡ sends_of (net_of net.now) yard.now i }
 {
     let link = net.link(i);
-    let ready = yard.on(i, link.free as usize - 1) - yard.off(i, 0);
-    ready.min(link.capacity as u32) as u16
+    let ready = yard.on(i, usize::from(link.free) - 1) - yard.off(i, 0);
+    ready.min(u32::from(link.capacity)) as u16
 }
 
 // What the link `i` may take: the storage that the wave has freed, as much as its capacity lets by.
 pub fn may_take(net: &Network, yard: &Yard, i: usize) -> u16
     requires here { i < (net_of net.now).links }
-    requires full { AllFull yard.now }
     requires safe { Readable (net_of net.now) yard.now i }
     ensures { result ≡ takes_of (net_of net.now) yard.now i }
 {
     let link = net.link(i);
-    let places = yard.off(i, link.wave as usize - 1) as u64 + link.storage as u64;
-    let room = places - yard.on(i, 0) as u64;
-    room.min(link.capacity as u64) as u16
+    let places = u64::from(yard.off(i, usize::from(link.wave) - 1)) + u64::from(link.storage);
+    let room = places - u64::from(yard.on(i, 0));
+    room.min(u64::from(link.capacity)) as u16
 }
 
 // What each link may take.
 pub fn take_caps(net: &Network, yard: &Yard, takes: &mut [u16])
-    requires full { AllFull yard.now }
     requires safe { (i : ℕ) → i < (net_of net.now).links → Readable (net_of net.now) yard.now i }
     requires takes { (net_of net.now).links ≤ length takes.old }
     ensures { (i : ℕ) → i < (net_of net.now).links → slice_index takes.new i ≡ takes_of (net_of net.now) yard.now i }
 {
-    for i in 0..net.links() {
-        takes[i] = may_take(net, yard, i);
+    for (i, take) in takes[..net.links()].iter_mut().enumerate() {
+        *take = may_take(net, yard, i);
     }
 }

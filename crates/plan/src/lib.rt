@@ -5,3 +5,4 @@
 pub mod caps;
 pub mod nodes;
 pub mod prefix;
+mod scene;

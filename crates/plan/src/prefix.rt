@@ -15,10 +15,7 @@ use network::Network;
 fn goes(to: Option<usize>, j: usize) -> u16
     ensures { result ≡ (if leads to j then 1 else 0) }
 {
-    match to {
-        None => 0,
-        Some(k) => { if k == j { 1 } else { 0 } }
-    }
+    u16::from(to == Some(j))
 }
 
 // Whether `a` more find room on the one link, and `b` more on the other.
@@ -31,6 +28,8 @@ fn room_for(a: u16, room: u16, b: u16, room2: u16) -> bool
 
 // How many pass from the link `i` to `j` and `j2`: counting stops at the first vehicle that finds
 // its link full.
+// It is the same at every clock, so it takes no scene.
+#[tactic(auto, using(crate::proofs::Facts::few_links))]
 pub fn prefix(net: &Network, yard: &Yard, i: usize, j: usize, j2: usize) -> u16
     requires plannable { Plannable (net_of net.now) yard.now }
     requires link { i < (net_of net.now).links }
@@ -41,20 +40,20 @@ pub fn prefix(net: &Network, yard: &Yard, i: usize, j: usize, j2: usize) -> u16
     let sends = may_send(net, yard, i);
     let room = may_take(net, yard, j);
     let room2 = may_take(net, yard, j2);
-    let mut k: u16 = 0;
-    let mut one: u16 = 0;
-    let mut two: u16 = 0;
-    'count: while k < sends {
-        let v = yard.look(Side::Road, i, k as usize);
-        let to = net.next(i, v.exit);
-        let a = goes(to, j);
-        let b = goes(to, j2);
-        if !room_for(a, room - one, b, room2 - two) {
-            break 'count;
+    let mut one = 0;
+    let mut two = 0;
+    'count: {
+        for k in 0..sends {
+            let v = yard.look(Side::Road, i, usize::from(k));
+            let to = net.next(i, v.exit);
+            let a = goes(to, j);
+            let b = goes(to, j2);
+            if !room_for(a, room - one, b, room2 - two) {
+                break 'count k;
+            }
+            one += a;
+            two += b;
         }
-        one += a;
-        two += b;
-        k += 1;
+        sends
     }
-    k
 }
