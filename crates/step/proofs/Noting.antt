@@ -1,31 +1,15 @@
 -- Readings and rows, link by link.
-use Rattle.std.proofs.Common.{◌≡◌, ℕ, ◌+◌, ◌-◌, ◌<◌, ◌≢◌, List, length, get_or, set, None, Option, sym, refl, ap, ◌∙◌, subst, ⊎_elim, arith}
+use Rattle.std.proofs.Common.{◌≡◌, ℕ, ◌+◌, ◌<◌, ◌≢◌, List, length, get_or, set, None, Option, sym, ap, ◌∙◌, subst, ⊎_elim, arith}
 use Rattle.std.proofs.lemmas.Bool.{cases_eq}
 use Rattle.std.proofs.lemmas.List.{get_or-set_same, get_or-set_other}
 use Rattle.newell.specs.declared.records.StepRow.{StepRow}
 use Rattle.links.specs.declared.records.Yard.{Yard}
-use Rattle.links.specs.Readings.{back, Next}
-use Rattle.links.specs.Tables.{Gauge, Noted}
-use Rattle.links.specs.Yards.{holds, gauge_of, NotedAt}
-use Rattle.links.proofs.Spacing.{beyond_none, beyond_more}
+use Rattle.links.specs.Readings.{back}
+use Rattle.links.specs.Tables.{Gauge}
+use Rattle.links.specs.Yards.{holds, gauge_of}
+use Rattle.links.proofs.Spacing.{beyond_more}
 use Rattle.plan.specs.View.{ons, offs}
 use Rattle.step.specs.Notes.{Written, Still}
-
--- the code's own numbers for what was read
-pub written_of : (a b : Gauge) (o u gone count : ℕ) (time : Option ℕ) → o ≡ back a.offs 0 → u ≡ back a.ons 0
-    → Noted a (o + gone + count) (o + gone) time b → Written a gone count time (record { came = o + gone + count - u; left = gone; travel = time }) b
-written_of a b o u gone count time p q n = record {
-  on = subst (λ v. Next a.ons (v + gone + count) b.ons) p n.ons;
-  off = subst (λ v. Next a.offs (v + gone) b.offs) p n.offs;
-  travel = n.travel;
-  told = λ z. record { came = p z + gone + count - q z; left = gone; travel = time };
-}
-
-pub still_of : (y : Yard) (i on off : ℕ) (time : Option ℕ) (y' : Yard) → NotedAt y i on off time y' → Still y y'
-still_of y i on off time y' n = record { lanes = n.lanes; holds = n.holds; spots = n.spots; beyond = n.beyond; sizes = n.sizes; laid = n.laid; area = n.area; same = n.same }
-
-pub still_none : (y : Yard) → Still y y
-still_none y = record { lanes = λ l. refl; holds = λ l. refl; spots = λ l. refl; beyond = beyond_none y; sizes = λ l. refl; laid = λ h. h; area = refl; same = refl }
 
 pub still_more : (y y' y'' : Yard) → Still y y' → Still y' y'' → Still y y''
 still_more y y' y'' a b = record {

@@ -1,5 +1,5 @@
 -- From what the parts of a step show to what the step makes of the run.
-use Rattle.std.proofs.Common.{◌≡◌, ℕ, zero, suc, ◌+◌, ◌-◌, ◌*◌, ◌^◌, ◌<◌, ◌≤◌, Bool, true, false, cond, eqb, List, [], ◌∷◌, ◌++◌, map, length, get_or, take, drop, Some, None, Option, sym, refl, ap, ◌∙◌, subst, ap₂, append_assoc, append-nil, arith, length-append, length-drop, eq-eqb}
+use Rattle.std.proofs.Common.{◌≡◌, ℕ, zero, suc, ◌+◌, ◌-◌, ◌*◌, ◌^◌, ◌<◌, ◌≤◌, Bool, true, false, cond, eqb, List, [], ◌∷◌, ◌++◌, map, length, get_or, take, drop, Some, None, Option, sym, refl, ap, ◌∙◌, ap₂, append_assoc, append-nil, arith, length-append, length-drop, eq-eqb}
 use Rattle.std.specs.List.{flat_map}
 use Rattle.std.proofs.ByRecursion.{All-get_or}
 use Rattle.std.proofs.lemmas.Bool.{both_ways}
@@ -19,12 +19,13 @@ use Rattle.network.specs.Layouts.{link_of}
 use Rattle.network.proofs.Rights.{right_of}
 use Rattle.network.proofs.Nexts.{next_in}
 use Rattle.links.specs.declared.records.Yard.{Yard}
-use Rattle.links.specs.Yards.{holds, gauge_of, spots_of, Laid, AllFull}
+use Rattle.links.specs.Yards.{holds, gauge_of, size_of, spots_of}
+use Rattle.links.proofs.Keeping.{laid_of, all_full}
 use Rattle.flow.specs.Flows.{going, stamped, exits, nobody, came_by, Shifted, Shiftable}
 use Rattle.flow.specs.Flows as flows
 use Rattle.flow.proofs.Going.{going_nobody, stamped_length}
 use Rattle.flow.proofs.Pulling.{exits_length}
-use Rattle.links.specs.Readings.{back, Full}
+use Rattle.links.specs.Readings.{back}
 use Rattle.links.specs.Tables.{Gauge}
 use Rattle.plan.specs.View.{view_of, ons, offs, sends_of, takes_of, Readable}
 use Rattle.plan.specs.Plans.{Plannable}
@@ -61,12 +62,13 @@ map_drop n vs = drop-map (λ v. v.exit) n vs
 blank_row : StepRow
 blank_row = record { came = 0; left = 0; travel = None }
 
--- curves stay full where the readings stay
-pub full_on : (y y' : Yard) → AllFull y → Laid y' → ((i : ℕ) → gauge_of y' i ≡ gauge_of y i) → AllFull y'
-full_on y y' f laid same = record {
-  whole = laid.whole;
-  ons = λ i h. subst (λ (g : Gauge). Full g.ons) (sym (same i)) (f.ons i h);
-  offs = λ i h. subst (λ (g : Gauge). Full g.offs) (sym (same i)) (f.offs i h);
+-- what stays built where the sizes stay
+pub built_on : (net : Net) (y y' : Yard) → Built net y → ((l : ℕ) → size_of y' l ≡ size_of y l) → Built net y'
+built_on net y y' b same = record {
+  full = all_full y';
+  laid = laid_of y';
+  sizes = λ i l. same i ∙ b.sizes i l;
+  waits = λ e j w. same (48 + j) ∙ b.waits e j w;
 }
 
 module _ (n : Network) (y : Yard) (t : ℕ) (built : Built (net_of n) y) (reached : Reached (net_of n) (view_of y t)) where
@@ -117,7 +119,6 @@ module _ (n : Network) (y : Yard) (t : ℕ) (built : Built (net_of n) y) (reache
 
     pub shiftable : Shiftable (net_of n) t rr k y
     shiftable = record {
-      laid = built.laid;
       enough = enough;
       past = λ i q l h. le (λ s f. All-get_or (λ (v : Vehicle). v.since ≤ t) (holds y i) q nobody (omega (arith, enough i l)) (f.link i l).since);
       room = λ j l. omega (arith, arrive_count j l, room j l, built.sizes j l);
@@ -154,7 +155,7 @@ module _ (n : Network) (y : Yard) (t : ℕ) (built : Built (net_of n) y) (reache
           (times : (i : ℕ) → i < (net_of n).links → time i ≡ flows.lasted t (final (take (k i) (holds y i))))
           (written : (i : ℕ) (d : StepRow) → i < (net_of n).links → Written (gauge_of y' i) (k i) (length (holds y' i)) (time i) (get_or rows' i d) (gauge_of y'' i))
           (beyond : (i : ℕ) (d : StepRow) → (net_of n).links ≤ i → get_or rows' i d ≡ get_or rows i d)
-          (wide : length rows' ≡ length rows) (full : AllFull y'') (asked : AskedNow (net_of n) (view_of y t) m m') where
+          (wide : length rows' ≡ length rows) (asked : AskedNow (net_of n) (view_of y t) m m') where
         lasted_same : (o : Option Vehicle) → flows.lasted t o ≡ now.lasted (net_of n) (view_of y t) k o
         lasted_same None = refl
         lasted_same (Some v) = refl
@@ -201,12 +202,4 @@ module _ (n : Network) (y : Yard) (t : ℕ) (built : Built (net_of n) y) (reache
             idle = λ j l h. still.spots j ∙ (s.idle j l h).2;
             beyond = beyond_more y y' y'' s.beyond still.beyond;
           };
-        }
-
-        pub built_again : Built (net_of n) y''
-        built_again = record {
-          full = full;
-          laid = still.laid s.laid;
-          sizes = λ i l. still.sizes i ∙ (s.sizes i ∙ built.sizes i l);
-          waits = λ e j w. still.sizes (48 + j) ∙ (s.sizes (48 + j) ∙ built.waits e j w);
         }

@@ -1,6 +1,6 @@
 // The readings and rows that a step leaves.
 ghost use Rattle.std.specs.Prelude.{◌≡◌, ℕ, ◌+◌, ◌-◌, ◌^◌, ◌<◌, ◌≤◌, ◌≢◌, length, Some, None, slice_index, slice_index_or};
-ghost use Rattle.links.specs.Yards.{holds, gauge_of, Laid, AllFull};
+ghost use Rattle.links.specs.Yards.{holds, gauge_of};
 ghost use Rattle.newell.specs.declared.records.StepRow.{StepRow as Line};
 ghost use Rattle.plan.specs.View.{ons, offs};
 ghost use Rattle.step.specs.Notes.{Written, Still};
@@ -12,12 +12,10 @@ use newell::StepRow;
 // tells its row.
 fn note_one(yard: &mut Yard, i: usize, left: u32, count: u32, time: Option<u32>) -> StepRow
     requires here { i < 48 }
-    requires full { AllFull yard.old }
     requires small { offs yard.old i 0 + left + count < 2 ^ 32 }
     requires more { ons yard.old i 0 ≤ offs yard.old i 0 + left + count }
     ensures written { Written (gauge_of yard.old i) left count time result (gauge_of yard.new i) }
     ensures others { (k : ℕ) → k ≢ i → gauge_of yard.new k ≡ gauge_of yard.old k }
-    ensures full { AllFull yard.new }
     ensures still { Still yard.old yard.new }
 {
     let off = yard.off(i, 0) + left;
@@ -40,8 +38,6 @@ pub fn note_all(
     rows: &mut [StepRow],
 )
     requires few { count ≤ 48 }
-    requires full { AllFull yard.old }
-    requires laid { Laid yard.old }
     requires outs { count ≤ length outs.now }
     requires times { count ≤ length times.now }
     requires rows { count ≤ length rows.old }
@@ -49,11 +45,11 @@ pub fn note_all(
     requires more { (i : ℕ) → i < count → ons yard.old i 0 ≤ offs yard.old i 0 + slice_index outs.now i + length (holds yard.old i) }
     ensures written { (i : ℕ) (d : Line) → i < count → Written (gauge_of yard.old i) (slice_index outs.now i) (length (holds yard.old i)) (slice_index_or times.now i None) (slice_index_or rows.new i d) (gauge_of yard.new i) }
     ensures beyond { (i : ℕ) (d : Line) → count ≤ i → slice_index_or rows.new i d ≡ slice_index_or rows.old i d }
-    ensures full { AllFull yard.new }
     ensures still { Still yard.old yard.new }
 {
-    for i in 0..count {
+    for (i, row) in rows[..count].iter_mut().enumerate() {
         let on_it = yard.count(Side::Road, i) as u32;
-        rows[i] = note_one(yard, i, outs[i] as u32, on_it, times[i]);
+        // By place: a zip runs by the iterator, and nothing is known then of what was written through it.
+        *row = note_one(yard, i, u32::from(outs[i]), on_it, times[i]);
     }
 }
