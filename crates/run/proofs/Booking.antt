@@ -16,7 +16,7 @@ use Rattle.links.specs.Yards.{holds, Put}
 use Rattle.flow.specs.Flows.{exits}
 use Rattle.plan.specs.View.{view_of}
 use Rattle.step.specs.Steps.{Built}
-use Rattle.step.proofs.Stepping.{full_on}
+use Rattle.step.proofs.Stepping.{built_on}
 use Rattle.run.specs.Stores.{Bookable}
 
 exits_append : (vs ws : List Vehicle) → exits (vs ++ ws) ≡ exits vs ++ exits ws
@@ -47,12 +47,7 @@ queued net y y' t j x n few l p = record {
 }
 
 pub built_still : (net : Net) (y y' : Yard) (k : ℕ) (vs : List Vehicle) → Built net y → Put y y' k vs → Built net y'
-built_still net y y' k vs b p = record {
-  full = full_on y y' b.full p.laid p.gauges;
-  laid = p.laid;
-  sizes = λ i l. p.sizes i ∙ b.sizes i l;
-  waits = λ e j w. p.sizes (48 + j) ∙ b.waits e j w;
-}
+built_still net y y' k vs b p = built_on net y y' b p.sizes
 
 pub booked_on : (net : Net) (r : RunNow) (e x n j : ℕ) (r' : RunNow) → Bookable net r e x n j → Queued net r j x n r' → Carries net r (book e x n (told tt)) r'
 booked_on net r e x n j r' b q = booking_carries net r r' e j x b.exit.0 b.served.0 n b.entrance b.exit.1 b.served.1 b.least b.most b.room q

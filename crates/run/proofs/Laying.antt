@@ -1,18 +1,24 @@
 -- The records of a run just opened.
-use Rattle.std.proofs.Common.{◌≡◌, ℕ, zero, suc, ◌+◌, ◌-◌, ◌<◌, ◌≤◌, ltb, ◌≢◌, List, [], length, get_or, take, set, replicate, sym, refl, ap, ◌∙◌, subst, ap₂, ⊎_elim, suc-add, zero-add, add-one, arith, below_more, le-ltb, lt-ltb}
+use Rattle.std.proofs.Common.{◌≡◌, ℕ, zero, suc, ◌+◌, ◌-◌, ◌*◌, ◌<◌, ◌≤◌, Bool, true, false, cond, ltb, ◌≢◌, List, [], ◌∷◌, length, get_or, set, replicate, sym, refl, ap, ◌∙◌, subst, ap₂, ⊎_elim, suc-add, zero-add, add-zero, add-one, arith, below_more, le-ltb, lt-ltb}
 use Rattle.std.proofs.lemmas.List.{get_or-set_same, get_or-set_other}
+use Rattle.std.proofs.lemmas.List.Sums.{sum_by-cons}
 use Rattle.std.proofs.lemmas.Bool.{cond-true, cond-false, cases_lt}
+use Rattle.std.specs.List.{sum_by, range_with_len}
+use Rattle.network.specs.declared.network.Network.{Network}
+use Rattle.network.specs.Nets.{net_of}
+use Rattle.network.proofs.Rights.{right_of}
 use Rattle.network.specs.Net.{Net, Entrance, entering}
 use Rattle.links.specs.declared.records.LinkRecord.{LinkRecord}
-use Rattle.links.specs.Tables.{blank_record, fresh_lane, fresh_curve, lane_at, Gauge, gauge_in}
-use Rattle.std.specs.List.{between}
-use Rattle.line.specs.Ring.{turned}
+use Rattle.line.specs.Parts.{fresh, queue}
+use Rattle.links.specs.Tables.{blank_record, fresh_curve, lane_at, Gauge, gauge_in, Lies}
 use Rattle.network.proofs.Sorts.{off₁}
 use Rattle.newell.specs.Now.{Opened}
-use Rattle.links.specs.declared.records.Lane.{Lane}
+use Rattle.line.specs.declared.shape.Part.{Part}
+use Rattle.links.specs.declared.records.Table.{Table}
 use Rattle.links.specs.declared.records.Yard.{Yard}
-use Rattle.links.specs.Readings.{back, Full}
-use Rattle.links.specs.Yards.{holds, size_of, gauge_of, Laid}
+use Rattle.links.proofs.Keeping.{laid_of, all_full}
+use Rattle.links.specs.Readings.{back}
+use Rattle.links.specs.Yards.{holds, size_of, gauge_of}
 use Rattle.flow.specs.Flows.{exits}
 use Rattle.flow.proofs.Pulling.{exits_nil}
 use Rattle.plan.specs.View.{view_of}
@@ -41,6 +47,45 @@ pub offset_queue : (net : Net) (at i size : ℕ) → i < 48 → at ≡ offset ne
 offset_queue net at i size l e s =
     ap₂ ◌+◌ e (s ∙ sym (size_queue net i)) ∙ (sym (offset_step net (48 + i)) ∙ ap (offset net) (let q : suc (48 + i) ≡ 48 + (i + 1) = omega arith in q))
 
+-- A sum over a range goes from the place before its first to the place behind its last.
+summed : (at f : ℕ → ℕ) (top : ℕ) → ((k : ℕ) → k < top → at k + f k ≡ at (k + 1)) → (a n : ℕ) → a + n ≤ top → at a + sum_by f (range_with_len a n) ≡ at (a + n)
+summed at f top step a zero l = simp add-zero
+summed at f top step a (suc n) l =
+    let c = sum_by-cons f a (range_with_len (a + 1) n) in
+    let h = summed at f top step (a + 1) n (omega arith) in
+    let e : a + 1 + n ≡ a + suc n = omega arith in
+    omega (arith, c, step a (omega arith), h, ap at e)
+
+pub roads_sum : (net : Net) → sum_by (road_size net) (range_with_len 0 48) ≡ offset net 48
+roads_sum net = omega (arith, offset_none net, summed (offset net) (road_size net) 48 (λ k l. offset_road net _ k _ l refl refl) 0 48 (omega arith))
+
+pub queues_sum : (net : Net) → offset net 48 + sum_by (queue_size net) (range_with_len 0 48) ≡ offset net 96
+queues_sum net = summed (λ k. offset net (48 + k)) (queue_size net) 48 (λ k l. offset_queue net _ k _ l refl refl) 0 48 (omega arith)
+
+-- no lane has more slots than a link may store
+either_small : (b : Bool) (x y m : ℕ) → x ≤ m → y ≤ m → cond b x y ≤ m
+either_small true x y m h k = h
+either_small false x y m h k = k
+
+waiting_small : (xs : List ℕ) → waiting_slots xs ≤ 2000
+waiting_small [] = omega arith
+waiting_small (x ∷ xs) = omega arith
+
+road_small : (n : Network) (i : ℕ) → road_size (net_of n) i ≤ 2000
+road_small n i = let net = net_of n in ⊎_elim
+    (λ (l : i < net.links). rw (cond-true (ltb i net.links) (net.link i).storage 0 (lt-ltb i net.links l)) ((right_of n).link i l).storage_most)
+    (λ (l : net.links ≤ i). rw (cond-false (ltb i net.links) (net.link i).storage 0 (le-ltb i net.links l)) (omega arith))
+    (cases_lt i net.links)
+
+size_small : (n : Network) (k : ℕ) → size_at (net_of n) k ≤ 2000
+size_small n k =
+    let net = net_of n in
+    either_small (ltb k 48) (road_size net k) (queue_size net (k - 48)) 2000 (road_small n k) (either_small (ltb (k - 48) net.links) (waiting_slots (entering net (net.link (k - 48)).from)) 0 2000 (waiting_small _) (omega arith))
+
+pub offset_small : (n : Network) (k : ℕ) → offset (net_of n) k ≤ 2000 * k
+offset_small n zero = omega (arith, offset_none (net_of n))
+offset_small n (suc k) = omega (arith, offset_step (net_of n) k, offset_small n k, size_small n k)
+
 pub fresh_more : (net : Net) (rs : List LinkRecord) (i : ℕ) (x : LinkRecord) → i < length rs → x ≡ fresh_at net i
     → ((k : ℕ) → k < i → get_or rs k blank_record ≡ fresh_at net k) → (k : ℕ) → k < i + 1 → get_or (set rs i x) k blank_record ≡ fresh_at net k
 fresh_more net rs i x l e all =
@@ -62,59 +107,52 @@ fresh_back : (q : ℕ) → back fresh_curve q ≡ 0
 unfolding back
 fresh_back q = zeros 64 (63 - q) 0
 
-fresh_full : Full fresh_curve
-fresh_full = record { wide = refl; inside = omega arith; full = refl }
-
-module _ (net : Net) (y : Yard) (few : net.links ≤ 48) (fresh : Fresh net y.table) (room : entries_for net ≤ length y.area.now) where
-  lane_is : (k : ℕ) → k < 96 → lane_at y.table k ≡ fresh_lane (offset net k) (size_at net k)
+module _ (net : Net) (t : Table) (new : Fresh net t) where
+  lane_is : (k : ℕ) → k < 96 → lane_at t k ≡ fresh (offset net k) (size_at net k)
   lane_is k h = ⊎_elim
-      (λ (l : k < 48). cond-true (ltb k 48) _ _ (lt-ltb k 48 l) ∙ (ap (λ (r : LinkRecord). r.road) (fresh.each k l) ∙ ap (fresh_lane (offset net k)) (sym (size_road net k l))))
+      (λ (l : k < 48). cond-true (ltb k 48) _ _ (lt-ltb k 48 l) ∙ (ap (λ (r : LinkRecord). r.road) (new.each k l) ∙ ap (fresh (offset net k)) (sym (size_road net k l))))
       (λ (l : 48 ≤ k).
       let e : 48 + (k - 48) ≡ k = omega arith in
       cond-false (ltb k 48) _ _ (le-ltb k 48 l)
-      ∙ (ap (λ (r : LinkRecord). r.queue) (fresh.each (k - 48) (omega arith))
-      ∙ (ap (fresh_lane (offset net (48 + (k - 48)))) (sym (size_queue net (k - 48))) ∙ ap (λ q. fresh_lane (offset net q) (size_at net q)) e)))
+      ∙ (ap (λ (r : LinkRecord). r.queue) (new.each (k - 48) (omega arith))
+      ∙ (ap (fresh (offset net (48 + (k - 48)))) (sym (size_queue net (k - 48))) ∙ ap (λ q. fresh (offset net q) (size_at net q)) e)))
       (cases_lt k 48)
 
-  start_is : (k : ℕ) → k < 96 → (lane_at y.table k).start ≡ offset net k
-  start_is k h = ap (λ (l : Lane). l.start) (lane_is k h)
+  start_is : (k : ℕ) → k < 96 → (lane_at t k).start ≡ offset net k
+  start_is k h = ap (λ (l : Part). l.start) (lane_is k h)
 
-  size_is : (k : ℕ) → k < 96 → (lane_at y.table k).size ≡ size_at net k
-  size_is k h = ap (λ (l : Lane). l.size) (lane_is k h)
+  size_is : (k : ℕ) → k < 96 → (lane_at t k).size ≡ size_at net k
+  size_is k h = ap (λ (l : Part). l.size) (lane_is k h)
 
-  laid : Laid y
-  laid = record {
-    whole = fresh.whole;
+  pub lies : (wide : ℕ) → entries_for net ≤ wide → Lies wide t
+  lies wide room = record {
+    whole = new.whole;
     placed = λ k h. let u = up net (suc k) 96 h in omega (arith, start_is k h, size_is k h, room, u, offset_step net k);
-    sound = λ k h. let a = ap (λ (l : Lane). l.mark.head) (lane_is k h) in let b = ap (λ (l : Lane). l.mark.len) (lane_is k h) in record { inside = omega arith; fits = omega arith };
     apart = λ j k l h. let g : j < 96 = omega arith in let u = up net (suc j) k l in omega (arith, start_is j g, size_is j g, start_is k h, u, offset_step net j);
   }
 
+module _ (net : Net) (y : Yard) (few : net.links ≤ 48) (new : Fresh net y.table) where
   empty : (k : ℕ) → k < 96 → holds y k ≡ []
   unfolding holds
-  empty k h = ap (λ (m : ℕ). take m (turned (between (lane_at y.table k).start ((lane_at y.table k).start + (lane_at y.table k).size) y.area.now) (lane_at y.table k).mark.head)) (ap (λ (l : Lane). l.mark.len) (lane_is k h))
+  empty k h = ap (queue y.area.now) (lane_is net y.table new k h)
 
   sizes : (i : ℕ) → i < net.links → size_of y i ≡ (net.link i).storage
   unfolding size_of
-  sizes i l = size_is i (omega arith) ∙ (size_road net i (omega arith) ∙ cond-true (ltb i net.links) _ _ (lt-ltb i net.links l))
+  sizes i l = size_is net y.table new i (omega arith) ∙ (size_road net i (omega arith) ∙ cond-true (ltb i net.links) _ _ (lt-ltb i net.links l))
 
   waits : (e j : ℕ) → Entrance net e j → size_of y (48 + j) ≡ 500
   unfolding size_of
   waits e j w =
       let p = off₁ net e j [] w.1 in
-      size_is (48 + j) (omega (arith, p.0)) ∙ (size_queue net j ∙ (cond-true (ltb j net.links) _ _ (lt-ltb j net.links p.0) ∙ ap waiting_slots (ap (entering net) p.1 ∙ w.0)))
+      size_is net y.table new (48 + j) (omega (arith, p.0)) ∙ (size_queue net j ∙ (cond-true (ltb j net.links) _ _ (lt-ltb j net.links p.0) ∙ ap waiting_slots (ap (entering net) p.1 ∙ w.0)))
 
   gauge_is : (i : ℕ) → i < 48 → gauge_of y i ≡ fresh_gauge
-  gauge_is i h = ap gauge_in (fresh.each i h)
+  gauge_is i h = ap gauge_in (new.each i h)
 
   pub built : Built net y
   built = record {
-    full = record {
-      whole = fresh.whole;
-      ons = λ i h. subst Full (sym (ap (λ (g : Gauge). g.ons) (gauge_is i h))) fresh_full;
-      offs = λ i h. subst Full (sym (ap (λ (g : Gauge). g.offs) (gauge_is i h))) fresh_full;
-    };
-    laid = laid;
+    full = all_full y;
+    laid = laid_of y;
     sizes = sizes;
     waits = waits;
   }

@@ -1,4 +1,3 @@
 pub mod Laying
 pub mod Booking
-pub mod Props
 pub mod Answering

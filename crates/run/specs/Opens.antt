@@ -3,7 +3,8 @@ use Rattle.std.specs.Prelude.{◌≡◌, ℕ, zero, suc, ◌+◌, ◌-◌, ◌<�
 use Rattle.network.specs.Net.{Net, entering}
 use Rattle.links.specs.declared.records.LinkRecord.{LinkRecord}
 use Rattle.links.specs.declared.records.Table.{Table}
-use Rattle.links.specs.Tables.{Gauge, fresh_curve, fresh_lane, fresh_record, record_at}
+use Rattle.line.specs.Parts.{fresh}
+use Rattle.links.specs.Tables.{Gauge, fresh_curve, fresh_record, record_at}
 
 -- 500 slots at an entrance, which no link enters
 abbrev pub waiting_slots : List ℕ → ℕ
@@ -35,7 +36,7 @@ fresh_gauge = record { ons = fresh_curve; offs = fresh_curve; travel = None }
 
 -- the record of the link i
 abbrev pub fresh_at : Net → ℕ → LinkRecord
-fresh_at net i = fresh_record (fresh_lane (offset net i) (road_size net i)) (fresh_lane (offset net (48 + i)) (queue_size net i))
+fresh_at net i = fresh_record (fresh (offset net i) (road_size net i)) (fresh (offset net (48 + i)) (queue_size net i))
 
 pub record Fresh (net : Net) (t : Table) : Type 0 where
   pub whole : length t.links ≡ 48

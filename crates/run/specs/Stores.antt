@@ -11,16 +11,13 @@ use Rattle.newell.specs.declared.records.StepRow.{StepRow}
 use Rattle.line.specs.Spots.{written}
 use Rattle.links.specs.declared.records.Yard.{Yard}
 use Rattle.links.specs.Yards.{spots_of, Beyond}
-use Rattle.step.specs.Steps.{Built, Advanced}
+use Rattle.step.specs.Steps.{Advanced}
 use Rattle.run.specs.declared.store.Store.{Store}
 use Rattle.run.specs.declared.store.Refusal.{Refusal}
 use Rattle.run.specs.declared.store.Refusal.TheVariants.{SmallArea, NoEntrance, NoExit, Unserved, BadCount, NoPlace, Late, NoLink, FewRows}
 
 abbrev pub view_in : Store → RunNow
 view_in s = view_of s.yard s.clock
-
-abbrev pub BuiltIn : Store → Type 0
-BuiltIn s = Built (net_of s.net) s.yard
 
 -- each refusal's number
 abbrev pub number : Refusal → ℕ
@@ -41,6 +38,11 @@ reply_of (Err e) = refused (number e)
 abbrev pub answer_of : {A : Type 0} → Result A Refusal → Reply A
 answer_of (Ok a) = told a
 answer_of (Err e) = refused (number e)
+
+-- the link that P holds of, or the refusal q where there is none
+abbrev pub FoundOr : Refusal → (ℕ → Type 0) → Result ℕ Refusal → Type 0
+FoundOr q P (Ok j) = P j
+FoundOr q P (Err e) = (e ≡ q) × ((j : ℕ) → P j → ⊥)
 
 -- what is so where a booking is accepted
 pub record Bookable (net : Net) (r : RunNow) (e x n j : ℕ) : Type 0 where

@@ -4,7 +4,8 @@ ghost use Rattle.std.specs.Prelude.{◌≡◌, ℕ, ◌+◌, ◌<◌, ◌≤◌,
 ghost use Rattle.network.specs.Nets.{net_of};
 ghost use Rattle.run.specs.Opens.{road_size, queue_size, offset, entries_for, Fresh};
 
-use links::{Lane, LinkRecord, Table};
+use line::Part;
+use links::{LinkRecord, Table};
 use network::{LINKS, Network, NodeKind};
 
 // The slots that an entrance has.
@@ -18,7 +19,7 @@ fn road_size(net: &Network, i: usize) -> usize
     if i >= net.links() {
         return 0;
     }
-    net.link(i).storage as usize
+    usize::from(net.link(i).storage)
 }
 
 // How many slots those have who wait for the link `i`.
@@ -30,12 +31,8 @@ fn queue_size(net: &Network, i: usize) -> usize
         return 0;
     }
     match net.kind(net.link(i).from as usize) {
-        NodeKind::Entrance(_) => WAITING,
-        NodeKind::Nothing => 0,
-        NodeKind::Exit(_) => 0,
-        NodeKind::Mainline(_, _) => 0,
-        NodeKind::Merge(_, _, _) => 0,
-        NodeKind::Diverge(_, _, _) => 0,
+        NodeKind::Entrance { .. } => WAITING,
+        _ => 0,
     }
 }
 
@@ -44,35 +41,28 @@ fn road_places(net: &Network) -> usize
     ensures told { result ≡ offset (net_of net.now) 48 }
     ensures small { result ≤ 3145680 }
 {
-    let mut all: usize = 0;
-    for i in 0..LINKS {
-        all += road_size(net, i);
-    }
-    all
+    (0..LINKS).map(|i| road_size(net, i)).sum()
 }
 
 // How many entries the vehicle area needs.
 pub fn needed(net: &Network) -> usize
     ensures { result ≡ entries_for (net_of net.now) }
 {
-    let mut all = road_places(net);
-    for i in 0..LINKS {
-        all += queue_size(net, i);
-    }
-    all
+    let waiting: usize = (0..LINKS).map(|i| queue_size(net, i)).sum();
+    road_places(net) + waiting
 }
 
 // The records of a run just opened.
 pub fn lay(net: &Network) -> Table
     ensures { Fresh (net_of net.now) result }
 {
-    let mut links = [LinkRecord::new(Lane::new(0, 0), Lane::new(0, 0)); LINKS];
-    let mut road: usize = 0;
+    let mut links = [LinkRecord::new(Part::new(0, 0), Part::new(0, 0)); LINKS];
+    let mut road = 0;
     let mut queue = road_places(net);
-    for i in 0..LINKS {
+    for (i, link) in links.iter_mut().enumerate() {
         let size = road_size(net, i);
         let waits = queue_size(net, i);
-        links[i] = LinkRecord::new(Lane::new(road, size), Lane::new(queue, waits));
+        *link = LinkRecord::new(Part::new(road, size), Part::new(queue, waits));
         road += size;
         queue += waits;
     }

@@ -1,7 +1,7 @@
 // The run's record and its invariant.
 ghost use Rattle.network.specs.Nets.{net_of};
 ghost use Rattle.newell.specs.Now.{Reached};
-ghost use Rattle.run.specs.Stores.{view_in, BuiltIn};
+ghost use Rattle.run.specs.Stores.{view_in};
 
 use crate::store::Store;
 
@@ -14,6 +14,5 @@ pub mod stepping;
 #[derive(Drop)]
 pub struct Run<'a> {
     store: Store<'a>,
-    ghost built: { ∥ BuiltIn store ∥₁ },
     ghost reached: { Reached (net_of store.net) (view_in store) },
 }

@@ -22,11 +22,10 @@ impl<'a> Run<'a> {
         ensures told { LinkTold (net_of self.now.store.net) (view_in self.now.store) number result }
         ensures carries { Carries (net_of self.now.store.net) (view_in self.now.store) (asking number (answer_of result)) (view_in self.now.store) }
     {
-        let k = number as usize;
-        if k < 1 || k > self.store.links() {
-            return Err(Refusal::NoLink);
+        match usize::from(number).checked_sub(1) {
+            Some(i) if i < self.store.links() => Ok(self.store.tell(i)),
+            _ => Err(Refusal::NoLink),
         }
-        Ok(self.store.tell(k - 1))
     }
 
     // How many wait at the entrance `e`.

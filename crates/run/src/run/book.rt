@@ -17,11 +17,8 @@ impl<'a> Run<'a> {
         ensures area { BookedIn self.old.store e x count result self.new.store }
         ensures kept { elim result [ Ok u ↦ Unit {0} | Err q ↦ self.new ≡ self.old ] }
     {
-        let j = match self.store.judge(e, x, count) {
-            Err(refusal) => return Err(refusal),
-            Ok(j) => j,
-        };
-        self.store.queue_up(j, x as u8, count as usize);
+        let j = self.store.judge(e, x, count)?;
+        self.store.queue_up(j, x as u8, usize::from(count));
         Ok(())
     }
 }

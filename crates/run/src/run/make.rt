@@ -33,10 +33,11 @@ impl<'a> Run<'a> {
         ensures area { result.store.yard.area.now ≡ area.old }
     {
         let table = lay(&net);
+        let yard = Yard { area, table };
         Run {
             store: Store {
                 net,
-                yard: Yard { area, table },
+                yard,
                 clock: 0,
             },
         }

@@ -21,10 +21,7 @@ impl<'a> Run<'a> {
         ensures same { self.new.store.yard.area.ghost_name ≡ self.old.store.yard.area.ghost_name }
         ensures left { elim result [ Ok u ↦ SteppedIn self.old.store (R.MergeRule.meaning rule.old) rows.old self.new.store (R.MergeRule.meaning rule.new) rows.new | Err e ↦ (self.new ≡ self.old) × (rule.new ≡ rule.old) × (rows.new ≡ rows.old) ] }
     {
-        match self.store.judge_step(rows.len()) {
-            Err(refusal) => return Err(refusal),
-            Ok(()) => {}
-        }
+        self.store.judge_step(rows.len())?;
         self.store.advance(rule, rows);
         Ok(())
     }

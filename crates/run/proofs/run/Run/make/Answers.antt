@@ -2,16 +2,22 @@ use Rattle.std.proofs.Common.{[], refl}
 use Rattle.network.specs.Nets.{net_of}
 use Rattle.network.proofs.Rights.{right_of, sound_of}
 use Rattle.newell.proofs.Carried.{opening_starts}
-use Rattle.run.proofs.Laying.{built, opened}
+use Rattle.run.proofs.Laying.{lies, built, opened}
 use Rattle.run.proofs.run.Run.make.Goals as goal
 
+pub invariant_of-yard : goal.invariant_of-yard
+invariant_of-yard c = record { laid = ∣ lies (net_of c.args.net) _ c.lay-table.ensures _ c.requires ∣₁ }
+
 pub invariant_of-result : goal.invariant_of-result
-invariant_of-result c =
+invariant_of-result c = let n = c.args.net in record { built = built (net_of n) _ (right_of n).count c.lay-table.ensures }
+
+pub invariant_of-result-2 : goal.invariant_of-result-2
+invariant_of-result-2 c =
     let n = c.args.net in
-    let o = opened (net_of n) _ (right_of n).count c.lay-table.ensures c.requires in record { built = ∣ built (net_of n) _ (right_of n).count c.lay-table.ensures c.requires ∣₁; reached = ∣ ([], opening_starts (net_of n) (sound_of n.layout (right_of n)) _ o) ∣₁ }
+    let o = opened (net_of n) _ (right_of n).count c.lay-table.ensures in record { reached = ∣ ([], opening_starts (net_of n) (sound_of n.layout (right_of n)) _ o) ∣₁ }
 
 pub returns : goal.returns
 returns c =
     let n = c.args.net in
-    let o = opened (net_of n) _ (right_of n).count c.lay-table.ensures c.requires in
+    let o = opened (net_of n) _ (right_of n).count c.lay-table.ensures in
     record { opened = o; new = opening_starts (net_of n) (sound_of n.layout (right_of n)) _ o; net = refl; area = refl }

@@ -1,4 +1,5 @@
-use Rattle.std.proofs.Common.{sym, subst, arith}
+use Rattle.std.proofs.Common.{sym, subst}
+use Rattle.std.proofs.lemmas.Result.{err_from_is_err_and}
 use Rattle.network.specs.Nets.{net_of}
 use Rattle.newell.specs.History.{ask_exit, told}
 use Rattle.newell.specs.Now.{Carries}
@@ -7,13 +8,16 @@ use Rattle.run.specs.Stores.{view_in}
 use Rattle.run.proofs.Booking.{exit_place}
 use Rattle.run.proofs.store.Store.gone.Goals as goal
 
-pub off-requires : goal.off-requires
-off-requires c = record { here = exit_place c.args.self.now.net c.args.x c.in-Some.i c.in-Some.ensures; full = c.requires.full; near = omega arith }
+pub off-requires-clause-here : goal.off-requires-clause-here
+off-requires-clause-here c = exit_place c.args.self.now.net c.args.x c.in_ok-i.i c.in_ok-i.ensures
 
-pub returns-in-None-clause-carries : goal.returns-in-None-clause-carries
-returns-in-None-clause-carries c = let s = c.args.self.now in no_exit (net_of s.net) (view_in s) c.args.x c.in-None.ensures
-
-pub returns-in-Some-clause-carries : goal.returns-in-Some-clause-carries
-returns-in-Some-clause-carries c =
+pub returns-in_err-i-clause-carries : goal.returns-in_err-i-clause-carries
+returns-in_err-i-clause-carries c =
     let s = c.args.self.now in
-    subst (λ k. Carries (net_of s.net) (view_in s) (ask_exit c.args.x (told k)) (view_in s)) (sym c.off.ensures) (exit_tells (net_of s.net) (view_in s) c.args.x c.in-Some.i c.in-Some.ensures)
+    let p = err_from_is_err_and c.from_residual.result c.from_residual.ensures.1 in
+    rw (p.1, p.2, c.in_err-i.ensures.0) (no_exit (net_of s.net) (view_in s) c.args.x c.in_err-i.ensures.1)
+
+pub returns-clause-carries : goal.returns-clause-carries
+returns-clause-carries c =
+    let s = c.args.self.now in
+    subst (λ k. Carries (net_of s.net) (view_in s) (ask_exit c.args.x (told k)) (view_in s)) (sym c.off.ensures) (exit_tells (net_of s.net) (view_in s) c.args.x c.in_ok-i.i c.in_ok-i.ensures)

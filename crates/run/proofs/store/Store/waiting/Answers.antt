@@ -1,4 +1,5 @@
 use Rattle.std.proofs.Common.{◌+◌, sym, ◌∙◌, subst}
+use Rattle.std.proofs.lemmas.Result.{err_from_is_err_and}
 use Rattle.network.specs.Nets.{net_of}
 use Rattle.links.specs.Yards.{holds}
 use Rattle.flow.proofs.Pulling.{exits_length}
@@ -10,16 +11,19 @@ use Rattle.run.proofs.Booking.{entrance_place}
 use Rattle.run.proofs.store.Store.waiting.Goals as goal
 
 pub count-requires : goal.count-requires
-count-requires c = record { here = entrance_place c.args.self.now.net c.args.e c.in-Some.j c.in-Some.ensures; laid = c.requires.laid }
+count-requires c = record { here = entrance_place c.args.self.now.net c.args.e c.in_ok-j.j c.in_ok-j.ensures }
 
-pub returns-in-None-clause-carries : goal.returns-in-None-clause-carries
-returns-in-None-clause-carries c = let s = c.args.self.now in no_entrance (net_of s.net) (view_in s) c.args.e c.in-None.ensures
-
-pub returns-in-Some-clause-carries : goal.returns-in-Some-clause-carries
-returns-in-Some-clause-carries c =
+pub returns-in_err-j-clause-carries : goal.returns-in_err-j-clause-carries
+returns-in_err-j-clause-carries c =
     let s = c.args.self.now in
-    let q = exits_length (holds s.yard (48 + c.in-Some.j)) ∙ sym c.count.ensures in
-    subst (λ k. Carries (net_of s.net) (view_in s) (ask_entrance c.args.e (told k)) (view_in s)) q (entrance_tells (net_of s.net) (view_in s) c.args.e c.in-Some.j c.in-Some.ensures)
+    let p = err_from_is_err_and c.from_residual.result c.from_residual.ensures.1 in
+    rw (p.1, p.2, c.in_err-j.ensures.0) (no_entrance (net_of s.net) (view_in s) c.args.e c.in_err-j.ensures.1)
 
-pub returns-in-Some-clause-told : goal.returns-in-Some-clause-told
-returns-in-Some-clause-told c = (c.in-Some.j, c.in-Some.ensures, c.count.ensures ∙ sym (exits_length (holds c.args.self.now.yard (48 + c.in-Some.j))))
+pub returns-clause-carries : goal.returns-clause-carries
+returns-clause-carries c =
+    let s = c.args.self.now in
+    let q = exits_length (holds s.yard (48 + c.in_ok-j.j)) ∙ sym c.count.ensures in
+    subst (λ k. Carries (net_of s.net) (view_in s) (ask_entrance c.args.e (told k)) (view_in s)) q (entrance_tells (net_of s.net) (view_in s) c.args.e c.in_ok-j.j c.in_ok-j.ensures)
+
+pub returns-clause-told : goal.returns-clause-told
+returns-clause-told c = (c.in_ok-j.j, c.in_ok-j.ensures, c.count.ensures ∙ sym (exits_length (holds c.args.self.now.yard (48 + c.in_ok-j.j))))
