@@ -1,5 +1,5 @@
 -- Calls one after another.
-use Rattle.std.proofs.Common.{◌≡◌, ℕ, ◌+◌, ◌<◌, ◌≤◌, ◌≢◌, List, ◌∷◌, length, get_or, set, sym, refl, subst, add-one, arith}
+use Rattle.std.proofs.Common.{◌≡◌, ℕ, Result, Option, Some, None, ◌+◌, ◌<◌, ◌≤◌, ◌≢◌, List, ◌∷◌, length, get_or, set, sym, ◌∙◌, refl, subst, add-one, arith}
 use Rattle.std.proofs.lemmas.List.{get_or-set_same, get_or-set_other}
 use Rattle.merge.specs.Rules.{Meaning}
 use Rattle.network.specs.Net.{Net, Sound}
@@ -9,33 +9,32 @@ use Rattle.newell.specs.Now.{RunNow, Ran, Opened}
 use Rattle.newell.proofs.Telling.{each_moment}
 use Rattle.script.specs.declared.call.Call.{Call}
 use Rattle.script.specs.declared.call.Call.TheVariants.{Step}
-use Rattle.script.specs.declared.call.Answer.{Answer}
-use Rattle.script.specs.declared.call.Answer.TheVariants.{Nothing}
-use Rattle.script.specs.Scripts.{Makes, Called, Played, none, more, Promised}
+use Rattle.run.specs.declared.store.Refusal.{Refusal}
+use Rattle.script.specs.declared.call.Outcome.{Outcome}
+use Rattle.script.specs.Scripts.{Called, Played, none, more, Promised}
 
-module _ (net : Net) (m₀ : Meaning) (rows₀ : List StepRow) (r₀ : RunNow) (calls : List Call) (answers : List Answer) where
+module _ (net : Net) (m₀ : Meaning) (rows₀ : List StepRow) (r₀ : RunNow) (calls : List Call) (answers : List (Option (Result Outcome Refusal))) where
   -- they are carried one by one
   pub played_ran : {n : ℕ} {h : History} {m : Meaning} {rows : List StepRow} {r : RunNow} → Played net m₀ rows₀ r₀ calls answers n h m rows r → Ran net r₀ h r
   played_ran none = refl
-  played_ran (more {r = r} m' rows' r' event p k f) = (r, played_ran p, f)
+  played_ran (more {r = r} m' rows' r' event a p e k f) = (r, played_ran p, f)
 
   -- an answer at a later place is not looked at
-  pub played_set : (i : ℕ) (a : Answer) {n : ℕ} {h : History} {m : Meaning} {rows : List StepRow} {r : RunNow} → n ≤ i
-      → Played net m₀ rows₀ r₀ calls answers n h m rows r → Played net m₀ rows₀ r₀ calls (set answers i a) n h m rows r
-  played_set i a l none = none
-  played_set i a l (more {n = n} {m = m} {rows = rows} m' rows' r' event p k f) =
+  pub played_set : (i : ℕ) (b : Option (Result Outcome Refusal)) {n : ℕ} {h : History} {m : Meaning} {rows : List StepRow} {r : RunNow} → n ≤ i
+      → Played net m₀ rows₀ r₀ calls answers n h m rows r → Played net m₀ rows₀ r₀ calls (set answers i b) n h m rows r
+  played_set i b l none = none
+  played_set i b l (more {n = n} m' rows' r' event a p e k f) =
       let ne : n ≢ i = omega arith in
-      more m' rows' r' event (played_set i a (omega arith) p)
-      (subst (λ b. Makes m rows m' rows' (get_or calls n Step) b event) (sym (get_or-set_other answers i n a Nothing ne)) k) f
+      more m' rows' r' event a (played_set i b (omega arith) p) (get_or-set_other answers i n b None ne ∙ e) k f
 
   -- one call more
-  pub played_more : (net₁ : Net) → net₁ ≡ net → (n : ℕ) (m m' : Meaning) (rows rows' : List StepRow) (r r' : RunNow) (c : Call) (a : Answer) → n < length answers
+  pub played_more : (net₁ : Net) → net₁ ≡ net → (n : ℕ) (m m' : Meaning) (rows rows' : List StepRow) (r r' : RunNow) (c : Call) (a : Result Outcome Refusal) → n < length answers
       → c ≡ get_or calls n Step → ((h : History) × Played net m₀ rows₀ r₀ calls answers n h m rows r) → Called net₁ m rows r c a m' rows' r'
-      → (h : History) × Played net m₀ rows₀ r₀ calls (set answers n a) (n + 1) h m' rows' r'
+      → (h : History) × Played net m₀ rows₀ r₀ calls (set answers n (Some a)) (n + 1) h m' rows' r'
   played_more net₁ e n m m' rows rows' r r' c a l i p q =
       let z : Called net m rows r (get_or calls n Step) a m' rows' r' = subst (λ c. Called net m rows r c a m' rows' r') i (subst (λ (u : Net). Called u m rows r c a m' rows' r') e q) in
-      let w = more m' rows' r' z.event (played_set n a (omega arith) p.1) (subst (λ b. Makes m rows m' rows' (get_or calls n Step) b z.event) (sym (get_or-set_same answers n a Nothing l)) z.makes) z.carries in
-      (z.event ∷ p.0, subst (λ k. Played net m₀ rows₀ r₀ calls (set answers n a) k (z.event ∷ p.0) m' rows' r') (sym (add-one n)) w)
+      let w = more m' rows' r' z.event a (played_set n (Some a) (omega arith) p.1) (get_or-set_same answers n (Some a) None l) z.makes z.carries in
+      (z.event ∷ p.0, subst (λ k. Played net m₀ rows₀ r₀ calls (set answers n (Some a)) k (z.event ∷ p.0) m' rows' r') (sym (add-one n)) w)
 
   -- the promise for them all
   pub promised : (m : Meaning) (rows : List StepRow) (r : RunNow) → Sound net → Opened net r₀ → ((h : History) × Played net m₀ rows₀ r₀ calls answers (length calls) h m rows r)

@@ -1,9 +1,9 @@
-// Calls and answers as values.
+//! Calls and answers as values.
 use newell::LinkState;
 use run::Refusal;
 
-// What may be asked of a run that is open.
-#[derive(Clone, Copy)]
+/// What may be asked of a run that is open.
+#[derive(Clone, Copy, PartialEq, Eq, Debug)]
 pub enum Call {
     Book {
         entrance: u16,
@@ -22,13 +22,14 @@ pub enum Call {
     },
 }
 
-// What a call answered; `Nothing` before it is made.
-#[derive(Clone, Copy)]
-pub enum Answer {
-    Nothing,
+/// What a call that was not refused came to.
+#[derive(Clone, Copy, PartialEq, Eq, Debug)]
+pub enum Outcome {
     Done,
     Link { state: LinkState },
     Waiting { count: usize },
     Gone { count: u32 },
-    Refused { refusal: Refusal },
 }
+
+/// What a call answered.
+pub type Answer = Result<Outcome, Refusal>;

@@ -1,25 +1,15 @@
-// One call of a list.
+//! One call of a list.
 ghost use Rattle.std.specs.Prelude.{◌≡◌};
 ghost use Rattle.network.specs.Nets.{net_of};
-ghost use Rattle.run.specs.Stores.{view_in, reply_of};
-ghost use Rattle.script.specs.Scripts.{Called, SaysDone};
+ghost use Rattle.run.specs.Stores.{view_in};
+ghost use Rattle.script.specs.Scripts.{Called};
 
-use crate::call::{Answer, Call};
+use crate::call::{Answer, Call, Outcome};
 use merge::MergeRule;
 use newell::StepRow;
-use run::{Refusal, Run};
+use run::Run;
 
-// Done, or the refusal.
-fn done(r: Result<(), Refusal>) -> Answer
-    ensures { SaysDone result (reply_of r) }
-{
-    match r {
-        Ok(()) => Answer::Done,
-        Err(refusal) => Answer::Refused { refusal },
-    }
-}
-
-// Makes the call, and tells its answer.
+/// Makes the call, and tells its answer.
 pub fn make_call<R: MergeRule>(
     run: &mut Run,
     rule: &mut R,
@@ -35,19 +25,12 @@ pub fn make_call<R: MergeRule>(
             entrance,
             exit,
             count,
-        } => done(run.book(entrance, exit, count)),
-        Call::Step => done(run.step(rule, rows)),
-        Call::Link { number } => match run.ask_link(number) {
-            Ok(state) => Answer::Link { state },
-            Err(refusal) => Answer::Refused { refusal },
-        },
-        Call::Entrance { node } => match run.ask_entrance(node) {
-            Ok(count) => Answer::Waiting { count },
-            Err(refusal) => Answer::Refused { refusal },
-        },
-        Call::Exit { node } => match run.ask_exit(node) {
-            Ok(count) => Answer::Gone { count },
-            Err(refusal) => Answer::Refused { refusal },
-        },
+        } => run.book(entrance, exit, count).map(|()| Outcome::Done),
+        Call::Step => run.step(rule, rows).map(|()| Outcome::Done),
+        Call::Link { number } => run.ask_link(number).map(|state| Outcome::Link { state }),
+        Call::Entrance { node } => run
+            .ask_entrance(node)
+            .map(|count| Outcome::Waiting { count }),
+        Call::Exit { node } => run.ask_exit(node).map(|count| Outcome::Gone { count }),
     }
 }

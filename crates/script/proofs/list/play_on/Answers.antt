@@ -1,4 +1,4 @@
-use Rattle.std.proofs.Common.{◌<◌, ◌≢◌, [], length, refl, ap, ◌∙◌, arith}
+use Rattle.std.proofs.Common.{◌<◌, ◌≢◌, [], length, Some, refl, ap, ◌∙◌, arith}
 use Rattle.std.proofs.lemmas.List.{get_or_default, get_or-set_other}
 use Rattle.network.specs.declared.network.Network.{Network}
 use Rattle.network.specs.Nets.{net_of}
@@ -25,5 +25,5 @@ loop-i-preserved g c =
           (get_or_default c.args.calls.now i _ Step (omega arith)) v.0 e.called,
       e.net ∙ v.1,
       e.same ∙ v.2,
-      λ k d h. get_or-set_other c.loop-i.answers i k c.make_call.result d (let ne : k ≢ i = omega arith in ne) ∙ v.3 k d (omega arith),
+      λ k d h. get_or-set_other c.loop-i.answers i k (Some c.make_call.result) d (let ne : k ≢ i = omega arith in ne) ∙ v.3 k d (omega arith),
     )
