@@ -1,4 +1,4 @@
-// The program: a corridor file from standard input to its printed lines.
+//! The program: a corridor file from standard input to its printed lines.
 #![tactic(auto)]
 
 use session::play_file;
@@ -7,7 +7,6 @@ use std::io::Read;
 
 fn main(rt: HostRuntime) -> io::Result<()> {
     let mut file = Vec::new(rt.alloc());
-    let mut input = rt.stdin();
-    input.read_to_end(&mut file)?;
-    play_file(&rt, file.as_slice())
+    rt.stdin().read_to_end(&mut file)?;
+    play_file(&rt, &file)
 }

@@ -1,108 +1,86 @@
-// Reads the file row by row, and does each row before the next is read.
+//! Reads the file row by row, and does each row before the next is read.
 use crate::show::show;
+use crate::stop::{No, Stop};
 use merge::{Chosen, Meter};
 use network::{LINKS, Network};
 use newell::{StepRow, Vehicle};
-use reader::{CallRow, Corridor, RowStart, next_row, read_network};
+use reader::{CallRow, Corridor, Position, next_row, read_network};
 use run::{Refusal, Run};
 use std::io;
 use words::Reader;
 
-// How many vehicles there is space for.
+/// How many vehicles there is space for.
 const SPACE: usize = 4000;
 
-// No row takes fewer bytes than one, so no file has more rows than bytes.
-const MOST_ROWS: usize = 65536;
-
-// A refusal: its number, line and place.
-fn refuse(rt: &HostRuntime, number: u8, at: RowStart) -> io::Result<()> {
-    let line = at.line;
-    let place = at.place;
-    println!(rt; "no {number} {line} {place}")
+/// Prints the lines of a corridor file, or its refusal.
+pub fn play_file(rt: &HostRuntime, file: &[u8]) -> io::Result<()> {
+    print_refusal(rt, play(rt, file))
 }
 
-pub fn play_file(rt: &HostRuntime, file: &[u8]) -> io::Result<()> {
+/// Prints a refusal; an output that failed goes on as the error.
+fn print_refusal(rt: &HostRuntime, done: Result<(), Stop>) -> io::Result<()> {
+    match done {
+        Ok(()) => Ok(()),
+        Err(Stop::Refused(no)) => println!(rt; "{no}"),
+        Err(Stop::Output(error)) => Err(error),
+    }
+}
+
+/// Reads the head, and does the rows behind it.
+fn play(rt: &HostRuntime, file: &[u8]) -> Result<(), Stop> {
     let mut reader = Reader::new(file);
     let mut corridor = Corridor::fresh();
-    match read_network(&mut reader, &mut corridor) {
-        Err(fault) => refuse(
-            rt,
-            fault.number(),
-            RowStart {
-                line: fault.line(),
-                place: fault.place(),
-            },
-        ),
-        Ok(go) => open(rt, &mut reader, corridor, go),
-    }
-}
-
-// Opens a run over what the file's head says, and does the rows behind it.
-fn open(rt: &HostRuntime, reader: &mut Reader, corridor: Corridor, go: RowStart) -> io::Result<()> {
-    let mut area = [Vehicle { exit: 0, since: 0 }; SPACE];
-    if let Err(refusal) = Run::check(&corridor.network, &area) {
-        return refuse(rt, refusal.number(), go);
-    }
-    let mut run = Run::make(corridor.network, &mut area);
-    let mut rule = Meter::over(Chosen::new(corridor.rule), corridor.gates);
-    for _ in 0..MOST_ROWS {
-        let at = RowStart {
-            line: reader.line(),
-            place: reader.place(),
-        };
-        match next_row(reader) {
-            Err(fault) => {
-                let at = RowStart {
-                    line: fault.line(),
-                    place: fault.place(),
-                };
-                return refuse(rt, fault.number(), at);
-            }
-            Ok(None) => return Ok(()),
-            Ok(Some(row)) => {
-                if let Some(refusal) = do_row(rt, &mut run, &mut rule, &corridor.network, row)? {
-                    refuse(rt, refusal.number(), at)?;
-                }
-            }
-        }
-    }
-    Ok(())
-}
-
-// Does a row; tells the run's refusal, if it said no.
-fn do_row(
-    rt: &HostRuntime,
-    run: &mut Run,
-    rule: &mut Meter<Chosen>,
-    network: &Network,
-    row: CallRow,
-) -> io::Result<Option<Refusal>> {
-    match row {
-        CallRow::Book {
-            entrance,
-            exit,
-            count,
-        } => Ok(run.book(entrance, exit, count).err()),
-        CallRow::Step { count } => Ok(steps(run, rule, count)),
-        CallRow::Show => {
-            show(rt, run, network)?;
-            Ok(None)
-        }
-    }
-}
-
-// So many steps, up to the first that is refused.
-fn steps(run: &mut Run, rule: &mut Meter<Chosen>, count: u16) -> Option<Refusal> {
-    let none = StepRow {
-        came: 0,
-        left: 0,
-        travel: None,
+    let go = read_network(&mut reader, &mut corridor)?;
+    let mut area = [Vehicle::default(); SPACE];
+    Run::check(&corridor.network, &area).map_err(|refusal| No::at(refusal, go))?;
+    let mut session = Session {
+        run: Run::make(corridor.network, &mut area),
+        rule: Meter::over(Chosen::new(corridor.rule), corridor.gates),
+        network: corridor.network,
     };
-    let mut rows = [none; LINKS];
-    for _ in 0..count {
-        if let Err(refusal) = run.step(rule, &mut rows) {
-            return Some(refusal);
+    session.do_rows(rt, &mut reader)
+}
+
+/// An open run, and what the file's head says of it.
+#[derive(Drop)]
+struct Session<'a> {
+    run: Run<'a>,
+    rule: Meter<Chosen>,
+    network: Network,
+}
+
+impl<'a> Session<'a> {
+    /// Does the rows up to the file's end or the first fault.
+    fn do_rows(&mut self, rt: &HostRuntime, reader: &mut Reader) -> Result<(), Stop> {
+        loop {
+            let at = reader.position();
+            let Some(row) = next_row(reader)? else {
+                return Ok(());
+            };
+            print_refusal(rt, self.do_row(rt, row, at))?;
         }
     }
-    None
+
+    /// Does the row that starts there.
+    fn do_row(&mut self, rt: &HostRuntime, row: CallRow, at: Position) -> Result<(), Stop> {
+        let done = match row {
+            CallRow::Book {
+                entrance,
+                exit,
+                count,
+            } => self.run.book(entrance, exit, count),
+            CallRow::Step { count } => self.steps(count),
+            CallRow::Show => return Ok(show(rt, &self.run, &self.network)?),
+        };
+        Ok(done.map_err(|refusal| No::at(refusal, at))?)
+    }
+
+    /// So many steps, up to the first that is refused.
+    fn steps(&mut self, count: u16) -> Result<(), Refusal> {
+        let mut rows = [StepRow::default(); LINKS];
+        for _ in 0..count {
+            self.run.step(&mut self.rule, &mut rows)?;
+        }
+        Ok(())
+    }
 }
