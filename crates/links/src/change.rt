@@ -1,6 +1,7 @@
 // Changes of the table.
-ghost use Rattle.std.specs.Prelude.{◌≡◌, ◌<◌};
+ghost use Rattle.std.specs.Prelude.{◌≡◌, ◌<◌, ◌≤◌};
 ghost use Rattle.std.specs.Fn.{FnOnceReturnsAtMut};
+ghost use Rattle.links.specs.Readings.{back};
 ghost use Rattle.links.specs.Tables.{table_size, record_at, lane_in, with_lane, lane_at, lane_no, Read, Changed, Marked};
 
 use crate::records::{LinkRecord, Side, Table};
@@ -63,11 +64,38 @@ impl Table {
     }
 
     // The readings of a link are noted.
-    pub(crate) fn note(&mut self, i: usize, on: u32, off: u32, travel: Option<u32>)
+    pub fn note(&mut self, i: usize, on: u32, off: u32, travel: Option<u32>)
         requires { i < table_size }
         ensures here { Read (record_at self.old i) on off travel (record_at self.new i) }
         ensures rest { Changed self.old i self.new }
     {
         self.change(i, |link| link.note(on, off, travel))
+    }
+
+    // How many had come on a link so many clocks ago. This and `off` are two questions, each by its
+    // name: one function with a flag would be no plainer.
+    pub fn on(&self, i: usize, k: usize) -> u32
+        requires here { i < table_size }
+        requires near { k ≤ 63 }
+        ensures { result ≡ back (record_at self.now i).ons k }
+    {
+        self.links[i].ons.back(k)
+    }
+
+    // How many had left a link so many clocks ago.
+    pub fn off(&self, i: usize, k: usize) -> u32
+        requires here { i < table_size }
+        requires near { k ≤ 63 }
+        ensures { result ≡ back (record_at self.now i).offs k }
+    {
+        self.links[i].offs.back(k)
+    }
+
+    // The travel time that was noted last.
+    pub fn travel(&self, i: usize) -> Option<u32>
+        requires { i < table_size }
+        ensures { result ≡ (record_at self.now i).travel }
+    {
+        self.links[i].travel
     }
 }

@@ -1,6 +1,5 @@
 // Readings: the newest comes, the oldest goes, and each is told by how many clocks ago it was taken.
-ghost use Rattle.std.specs.Prelude.{◌≡◌, ◌+◌, ◌-◌, ◌≤◌, [], ◌∷◌, ◌++◌, length};
-ghost use Rattle.line.specs.Ring.{rest};
+ghost use Rattle.std.specs.Prelude.{◌≡◌, ◌-◌, ◌≤◌, length};
 ghost use Rattle.links.specs.Counts.{reading_count};
 
 use line::Part;
@@ -18,7 +17,7 @@ pub struct Curve {
 }
 
 impl Curve {
-    ghost use Rattle.links.specs.Readings.{readings, back as ago, Next};
+    ghost use Rattle.links.specs.Readings.{back as ago, Next};
 
     // The queue of the readings. Only its head is kept: the rest of it is the same in all curves.
     fn queue(&self) -> Part
@@ -40,6 +39,7 @@ impl Curve {
         ensures { Next self.old x self.new }
     {
         let mut queue = self.queue();
+        // The oldest is told to nobody.
         let _ = queue.take(&mut self.slots);
         queue.push(&mut self.slots, x).unwrap();
         self.oldest = queue.head;

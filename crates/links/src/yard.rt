@@ -57,14 +57,13 @@ impl<'a> Yard<'a> {
         lane.look(self.area, q)
     }
 
-    // How many had come on a link so many clocks ago. This and `off` are two questions, each by its
-    // name: one function with a flag would be no plainer.
+    // How many had come on a link so many clocks ago.
     pub fn on(&self, i: usize, k: usize) -> u32
         requires here { i < table_size }
         requires near { k ≤ 63 }
         ensures { result ≡ ago (gauge_of self.now i).ons k }
     {
-        self.table.links[i].ons.back(k)
+        self.table.on(i, k)
     }
 
     // How many had left a link so many clocks ago.
@@ -73,7 +72,7 @@ impl<'a> Yard<'a> {
         requires near { k ≤ 63 }
         ensures { result ≡ ago (gauge_of self.now i).offs k }
     {
-        self.table.links[i].offs.back(k)
+        self.table.off(i, k)
     }
 
     // The travel time that was noted last.
@@ -81,7 +80,7 @@ impl<'a> Yard<'a> {
         requires { i < table_size }
         ensures { result ≡ (gauge_of self.now i).travel }
     {
-        self.table.links[i].travel
+        self.table.travel(i)
     }
 
     // The readings of one link are noted.
