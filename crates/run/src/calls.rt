@@ -1,5 +1,5 @@
 // What a store does for the calls of a run.
-ghost use Rattle.std.specs.Prelude.{◌≡◌, ℕ, ◌+◌, ◌<◌, ◌≤◌, true, false, ◌⊎◌, length};
+ghost use Rattle.std.specs.Prelude.{◌≡◌, ◌+◌, ◌<◌, ◌≤◌, true, false, ◌⊎◌, length};
 ghost use Rattle.links.specs.Yards.{holds, size_of};
 ghost use Rattle.network.specs.Net.{Entrance as EntranceOf, Exit as ExitOf};
 ghost use Rattle.network.specs.Nets.{net_of};
@@ -15,6 +15,7 @@ use flow::queue::queue_up;
 use flow::tick::Tick;
 use links::Side;
 use merge::MergeRule;
+use network::Network;
 use newell::{LinkState, StepRow};
 use step::advance::advance;
 
@@ -29,13 +30,27 @@ fn countable(n: u16) -> bool
     (1..=BOOKED).contains(&n)
 }
 
-// Whether `n` more may wait where so many do.
+// Whether `n` more may wait where so many do. The 500 is `WAITING`, in numbers so that an edit of
+// `WAITING` alone is refused.
 fn place_for(waiting: usize, n: u16) -> bool
     requires { waiting ≤ 500 }
     ensures yes { result ≡ true → waiting + n ≤ 500 }
     ensures no { result ≡ false → 500 < waiting + n }
 {
     waiting + usize::from(n) <= 500
+}
+
+// The checks of a step from a clock, with so many rows, in their order.
+pub fn judge_step(net: &Network, clock: u32, rows: usize) -> Result<(), Refusal>
+    ensures { StepJudged (net_of net.now) clock rows result }
+{
+    if rows < net.links() {
+        return Err(Refusal::FewRows);
+    }
+    if clock >= LAST {
+        return Err(Refusal::Late);
+    }
+    Ok(())
 }
 
 impl<'a> Store<'a> {
@@ -50,13 +65,7 @@ impl<'a> Store<'a> {
     pub fn judge_step(&self, rows: usize) -> Result<(), Refusal>
         ensures { StepJudged (net_of self.now.net) self.now.clock rows result }
     {
-        if rows < self.links() {
-            return Err(Refusal::FewRows);
-        }
-        if self.clock >= LAST {
-            return Err(Refusal::Late);
-        }
-        Ok(())
+        judge_step(&self.net, self.clock, rows)
     }
 
     // The step from the clock.

@@ -1,6 +1,6 @@
 // How the parts of the vehicle area are laid out: first one for each link, then one for those who
 // wait for each link at an entrance.
-ghost use Rattle.std.specs.Prelude.{◌≡◌, ℕ, ◌+◌, ◌<◌, ◌≤◌, length};
+ghost use Rattle.std.specs.Prelude.{◌≡◌, ◌+◌, ◌≤◌};
 ghost use Rattle.network.specs.Nets.{net_of};
 ghost use Rattle.run.specs.Opens.{road_size, queue_size, offset, entries_for, Fresh};
 
@@ -30,7 +30,7 @@ fn queue_size(net: &Network, i: usize) -> usize
     if i >= net.links() {
         return 0;
     }
-    match net.kind(net.link(i).from as usize) {
+    match net.kind(usize::from(net.link(i).from)) {
         NodeKind::Entrance { .. } => WAITING,
         _ => 0,
     }
