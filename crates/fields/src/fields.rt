@@ -140,7 +140,7 @@ fn call_in(rest: &mut Rest, kind: Kind) -> Result<CallRow, RowFault>
     }
 }
 
-// The row of this kind whose words behind the name are are left.
+// The row of this kind whose words behind the name are left.
 pub fn fields(rest: &mut Rest, kind: Kind, counts: Counts) -> Result<Row, RowFault>
     requires counted { length (rest_of rest.old) + 1 ≡ count_of kind }
     ensures { Judged (wants counts.nodes counts.links kind) (rest_of rest.old) rest.old.words.at.line result (λ row. (kind_of row ≡ kind) × (texts (rest_of rest.old) ≡ map written (fields_of row)) × Ranged counts.nodes counts.links row) }

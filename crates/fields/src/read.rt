@@ -1,4 +1,5 @@
-// Reads one row.
+// Reads one row. That a reader keeps its file is a clause here and in the crate above: a type would be
+// no plainer, since it can't say what a call leaves as it was.
 ghost use Rattle.std.specs.Prelude.{◌≡◌};
 ghost use Rattle.rows.specs.Reading.{ReadRow};
 ghost use Rattle.words.specs.Tokens.{spot_of, at_of};
@@ -24,8 +25,6 @@ fn checked(word: Word, stage: Stage, count: usize) -> Result<Kind, RowFault>
     Ok(kind)
 }
 
-// A reader that is lent for writing keeps its file, which each contract here and in the crate above
-// says: a type can't say what a call leaves as it was.
 // The row that stands next; its nodes and links are those that the `net` row counts. A fault leaves
 // the reader where it was.
 pub fn read_row(reader: &mut Reader, stage: Stage, counts: Counts) -> Result<Row, RowFault>

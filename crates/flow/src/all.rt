@@ -1,5 +1,5 @@
 // All links send.
-ghost use Rattle.std.specs.Prelude.{◌≡◌, ℕ, ◌+◌, ◌-◌, ◌<◌, ◌≤◌, length, take as taken, Some, None, slice_index, slice_index_or};
+ghost use Rattle.std.specs.Prelude.{◌≡◌, ℕ, ◌<◌, ◌≤◌, length, take as taken, None, slice_index, slice_index_or};
 ghost use Rattle.newell.specs.History.{final};
 ghost use Rattle.network.specs.Nets.{net_of};
 ghost use Rattle.links.specs.Yards.{holds};

@@ -1,5 +1,5 @@
 // A vehicle that comes on a link or leaves it.
-ghost use Rattle.std.specs.Prelude.{◌≡◌, ℕ, ◌+◌, ◌-◌, ◌<◌, ◌≤◌, min as least, length, Some, None, slice_index_or};
+ghost use Rattle.std.specs.Prelude.{◌≡◌, ℕ, ◌+◌, ◌-◌, ◌<◌, ◌≤◌, min as least, length, Some, slice_index_or};
 ghost use Rattle.network.specs.Net.{next as next_of};
 ghost use Rattle.network.specs.Nets.{net_of};
 ghost use Rattle.links.specs.Tables.{table_size};

@@ -1,5 +1,5 @@
 // Vehicles that leave a link and come on the next one.
-ghost use Rattle.std.specs.Prelude.{◌≡◌, ℕ, ◌+◌, ◌-◌, ◌<◌, ◌≤◌, ◌≢◌, [], ◌∷◌, ◌++◌, length, take as taken, Some, None, slice_index_or};
+ghost use Rattle.std.specs.Prelude.{◌≡◌, ℕ, ◌+◌, ◌-◌, ◌<◌, ◌≤◌, ◌≢◌, [], ◌∷◌, length, take as taken, Some, slice_index_or};
 ghost use Rattle.network.specs.Net.{next as next_of};
 ghost use Rattle.newell.specs.History.{final};
 ghost use Rattle.network.specs.Nets.{net_of};

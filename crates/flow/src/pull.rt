@@ -1,5 +1,5 @@
 // Vehicles that come from an entrance on its link.
-ghost use Rattle.std.specs.Prelude.{◌≡◌, ℕ, ◌+◌, ◌-◌, ◌<◌, ◌≤◌, [], ◌∷◌, ◌++◌, length, take as taken, slice_index};
+ghost use Rattle.std.specs.Prelude.{ℕ, ◌+◌, ◌<◌, ◌≤◌, [], ◌∷◌, length, take as taken, slice_index};
 ghost use Rattle.links.specs.Tables.{table_size};
 ghost use Rattle.links.specs.Yards.{holds, size_of};
 ghost use Rattle.flow.specs.Flows.{Pulled, PulledAll, leader};

@@ -1,5 +1,5 @@
 // Vehicles that are booked wait at their entrance.
-ghost use Rattle.std.specs.Prelude.{◌≡◌, ℕ, ◌+◌, ◌<◌, ◌≤◌, [], ◌∷◌, ◌++◌, length, replicate};
+ghost use Rattle.std.specs.Prelude.{◌≡◌, ◌+◌, ◌<◌, ◌≤◌, [], ◌∷◌, ◌++◌, length, replicate};
 ghost use Rattle.line.specs.Spots.{wrote, written};
 ghost use Rattle.links.specs.Tables.{table_size};
 ghost use Rattle.links.specs.Yards.{holds, spots_of, size_of, Put};

@@ -1,7 +1,7 @@
 //! The rule `zip`: the legs pass one vehicle each in turn.
-ghost use Rattle.std.specs.Prelude.{◌≡◌, ◌+◌, ◌≤◌, cond, min};
+ghost use Rattle.std.specs.Prelude.{◌≡◌, ◌≤◌, cond};
 ghost use Rattle.merge.specs.declared.alternate.Leg.TheVariants.{First};
-ghost use Rattle.merge.specs.Turns.{other, in_order, own_part, own_last, zip_counts, zip_all, Zips, zip_meaning, turns_of, new_zip};
+ghost use Rattle.merge.specs.Turns.{other, in_order, own_part, own_last, zip_all, Zips, zip_meaning, turns_of, new_zip};
 ghost use Rattle.merge.specs.Laws.{zip_lawful};
 
 use crate::nodes::PerNode;

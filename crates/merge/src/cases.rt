@@ -38,6 +38,7 @@ fn gated_answers(gate: Gate, node: u16, q: Question) -> (u16, u16)
     ensures { result ≡ (fair_behind node gate).splits node [] q }
 {
     let mut gates = Gates::none();
+    // Where there is no such node, the rule answers without a gate.
     let _ = gates.put(node, gate);
     let mut rule = Meter::over(Fair, gates);
     rule.split(node, q)

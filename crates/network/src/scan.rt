@@ -1,5 +1,5 @@
 // The links at a node, and the kind that they make it.
-ghost use Rattle.std.specs.Prelude.{◌≡◌, ℕ, ◌+◌, ◌^◌, ◌<◌, ◌≤◌, length, nat_eq};
+ghost use Rattle.std.specs.Prelude.{◌≡◌, ◌+◌, ◌^◌, ◌<◌, length, nat_eq};
 ghost use Rattle.network.specs.Net.{places};
 ghost use Rattle.network.specs.Scans.{IsFew, IsOrNone, end_of, few_count, link_in, links_net, more_of};
 

@@ -27,7 +27,8 @@ pub struct LinkState {
     pub travel: Option<u32>,
 }
 
-/// The numbers in the order of the fields, a space between; a hyphen for no travel time.
+/// The numbers in the order of the fields, a space between; a hyphen for no travel time. What is
+/// printed is held to the programs' output, not proved.
 impl fmt::Display for LinkState {
     fn fmt<W: fmt::Write>(&self, f: &mut fmt::Formatter<W>) -> fmt::Result {
         let LinkState {

@@ -1,5 +1,5 @@
 // How many vehicles pass a diverge.
-ghost use Rattle.std.specs.Prelude.{◌≡◌, ℕ, ◌+◌, ◌-◌, ◌<◌, ◌≤◌, true, false, ◌⊎◌, length, if◌then◌else◌};
+ghost use Rattle.std.specs.Prelude.{◌≡◌, ℕ, ◌+◌, ◌-◌, ◌<◌, ◌≤◌, true, false, ◌⊎◌, if◌then◌else◌};
 ghost use Rattle.network.specs.Net.{is as leads};
 ghost use Rattle.network.specs.Nets.{net_of};
 ghost use Rattle.newell.specs.Plain.{Greatest};
@@ -28,7 +28,8 @@ fn room_for(a: u16, room: u16, b: u16, room2: u16) -> bool
 
 // How many pass from the link `i` to `j` and `j2`: counting stops at the first vehicle that finds
 // its link full.
-// It is the same at every clock, so it takes no scene.
+// It is the same at every clock, so it takes no scene. The loop is left by a label that yields how
+// many, and not by `return`: a rule of the project.
 #[tactic(auto, using(crate::proofs::Facts::few_links))]
 pub fn prefix(net: &Network, yard: &Yard, i: usize, j: usize, j2: usize) -> u16
     requires plannable { Plannable (net_of net.now) yard.now }

@@ -31,10 +31,10 @@ pub(crate) fn read_net(reader: &mut Reader) -> Result<Counts, FileFault>
     ensures kept { reader.new.file.now ≡ reader.old.file.now }
 {
     let none = Counts { nodes: 0, links: 0 };
-    match head_row(reader, Stage::Start, none)? {
-        Row::Net { nodes, links } => Ok(Counts { nodes, links }),
-        _ => unreachable(),
-    }
+    let Row::Net { nodes, links } = head_row(reader, Stage::Start, none)? else {
+        unreachable()
+    };
+    Ok(Counts { nodes, links })
 }
 
 // Takes the link of the next `link` row, and tells where that starts.
@@ -45,13 +45,11 @@ fn next_link(reader: &mut Reader, counts: Counts, draft: &mut Draft) -> Result<P
     ensures kept { reader.new.file.now ≡ reader.old.file.now }
 {
     let start = reader.position();
-    match head_row(reader, Stage::Links, counts)? {
-        Row::Link { link } => {
-            add_link(draft, link, start)?;
-            Ok(start)
-        }
-        _ => unreachable(),
-    }
+    let Row::Link { link } = head_row(reader, Stage::Links, counts)? else {
+        unreachable()
+    };
+    add_link(draft, link, start)?;
+    Ok(start)
 }
 
 // The network of as many `link` rows as are wanted.

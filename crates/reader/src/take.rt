@@ -8,7 +8,8 @@ use merge::{Gate, Gates};
 use network::{Draft, Link, Network, NodeFault, RouteFault};
 use words::Position;
 
-// Takes a link whose numbers are in range; where there is room for it, it can only run backward.
+// Takes a link whose numbers are in range and for which there is room: the only fault left is that
+// it runs backward.
 pub(crate) fn add_link(draft: &mut Draft, link: Link, at: Position) -> Result<(), FileFault>
     requires room { (draft_of draft.old).links < draft.old.wanted }
     requires ranged { Ranged (draft_of draft.old).nodes link }
@@ -70,6 +71,6 @@ pub(crate) fn add_meter(
     let Some(gate) = Gate::new(rate, period) else {
         unreachable()
     };
-    let _ = gates.put(node, gate);
+    gates.put(node, gate).unwrap();
     Ok(())
 }

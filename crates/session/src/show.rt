@@ -5,7 +5,8 @@ use newell::LinkState;
 use run::Run;
 use std::io;
 
-/// The states of the links, in number order.
+/// The states of the links, in number order, for as many links as a corridor may have: `show` goes over
+/// a slice of them, as a rule of the project has it.
 fn ask_links(run: &Run) -> [LinkState; LINKS] {
     let mut states = [LinkState::default(); LINKS];
     for (state, number) in states.iter_mut().zip(1..) {

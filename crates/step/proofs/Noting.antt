@@ -1,14 +1,12 @@
 -- Readings and rows, link by link.
-use Rattle.std.proofs.Common.{◌≡◌, ℕ, ◌+◌, ◌<◌, ◌≢◌, List, length, get_or, set, None, Option, sym, ap, ◌∙◌, subst, ⊎_elim, arith}
+use Rattle.std.proofs.Common.{◌≡◌, ℕ, ◌+◌, ◌<◌, ◌≢◌, List, length, get_or, set, None, Option, sym, ◌∙◌, subst, ⊎_elim, arith}
 use Rattle.std.proofs.lemmas.Bool.{cases_eq}
 use Rattle.std.proofs.lemmas.List.{get_or-set_same, get_or-set_other}
 use Rattle.newell.specs.declared.records.StepRow.{StepRow}
 use Rattle.links.specs.declared.records.Yard.{Yard}
-use Rattle.links.specs.Readings.{back}
 use Rattle.links.specs.Tables.{Gauge}
 use Rattle.links.specs.Yards.{holds, gauge_of}
 use Rattle.links.proofs.Spacing.{beyond_more}
-use Rattle.plan.specs.View.{ons, offs}
 use Rattle.step.specs.Notes.{Written, Still}
 
 pub still_more : (y y' y'' : Yard) → Still y y' → Still y' y'' → Still y y''
@@ -22,12 +20,6 @@ still_more y y' y'' a b = record {
   area = b.area ∙ a.area;
   same = b.same ∙ a.same;
 }
-
-pub off_same : (y y' : Yard) (i q : ℕ) → gauge_of y' i ≡ gauge_of y i → offs y' i q ≡ offs y i q
-off_same y y' i q e = ap (λ (g : Gauge). back g.offs q) e
-
-pub on_same : (y y' : Yard) (i q : ℕ) → gauge_of y' i ≡ gauge_of y i → ons y' i q ≡ ons y i q
-on_same y y' i q e = ap (λ (g : Gauge). back g.ons q) e
 
 module _ (y₀ y y' : Yard) (i : ℕ) (outs : List ℕ) (times : List (Option ℕ)) (rows : List StepRow) (row : StepRow) (count : ℕ) where
   abbrev At : Yard → List StepRow → ℕ → Type 0

@@ -1,5 +1,5 @@
 // The step itself.
-ghost use Rattle.std.specs.Prelude.{◌≡◌, ℕ, ◌+◌, ◌<◌, ◌≤◌, length};
+ghost use Rattle.std.specs.Prelude.{◌≡◌, ◌<◌, ◌≤◌, length};
 ghost use Rattle.network.specs.Nets.{net_of};
 ghost use Rattle.newell.specs.Now.{Reached};
 ghost use Rattle.plan.specs.View.{view_of};

@@ -1,5 +1,5 @@
 // The readings and rows that a step leaves.
-ghost use Rattle.std.specs.Prelude.{◌≡◌, ℕ, ◌+◌, ◌-◌, ◌^◌, ◌<◌, ◌≤◌, ◌≢◌, length, Some, None, slice_index, slice_index_or};
+ghost use Rattle.std.specs.Prelude.{◌≡◌, ℕ, ◌+◌, ◌-◌, ◌^◌, ◌<◌, ◌≤◌, ◌≢◌, length, None, slice_index, slice_index_or};
 ghost use Rattle.links.specs.Yards.{holds, gauge_of};
 ghost use Rattle.newell.specs.declared.records.StepRow.{StepRow as Line};
 ghost use Rattle.plan.specs.View.{ons, offs};

@@ -14,7 +14,8 @@ pub enum Layer {
 
 // What a fault tells: its number, its line from 1, its place in bytes from 0, its layer, and the node
 // that it is about, 0 where it is about none.
-// The number, line 0 for the file as a whole and node 0 for none are the fixed format of refusals.
+// The number, line 0 for the file as a whole and node 0 for none are the fixed format of refusals, and
+// so are line and place as two numbers.
 #[derive(Clone, Copy)]
 pub struct Told {
     pub number: u8,

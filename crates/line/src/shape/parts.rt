@@ -1,4 +1,4 @@
-// Queues in the parts of one area. The part is lent to a `Line`.
+// Queues in the parts of one area. For a push and a take the part is lent to a `Line`.
 ghost use Rattle.std.specs.Prelude.{◌≡◌, ◌+◌, ◌-◌, ◌<◌, ◌≤◌, [], ◌∷◌, ◌++◌, length, if◌then◌else◌, is_ok, Some, nat_lt, slice_set};
 ghost use Rattle.std.specs.List.{slice_get};
 ghost use Rattle.line.specs.Ring.{held, slot_of, passed, first, rest};

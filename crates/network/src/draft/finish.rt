@@ -1,6 +1,5 @@
 // How a draft becomes a network.
-ghost use Rattle.std.specs.Prelude.{◌≡◌, ℕ, ◌+◌, ◌<◌, ◌≤◌};
-ghost use Rattle.network.specs.Layouts.{drawn, IsKind};
+ghost use Rattle.std.specs.Prelude.{◌<◌};
 ghost use Rattle.network.specs.Drafts.{Finished, AllKinds};
 
 use super::{Draft, NodeFault};

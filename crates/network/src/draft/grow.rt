@@ -1,5 +1,5 @@
-// How a draft takes in its links and becomes a network.
-ghost use Rattle.std.specs.Prelude.{◌≡◌, ℕ, ◌<◌, ◌≤◌, ◌&&◌, Decides};
+// How a draft takes in its links.
+ghost use Rattle.std.specs.Prelude.{◌≡◌, ◌<◌, ◌&&◌, Decides};
 ghost use Rattle.network.specs.Layouts.{empty_layout};
 ghost use Rattle.network.specs.Drafts.{Started, Added, Ranged, counted};
 

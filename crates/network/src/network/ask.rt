@@ -1,7 +1,7 @@
 // What a network tells.
 ghost use Rattle.std.specs.Prelude.{◌≡◌, ℕ, ◌<◌, ◌≤◌, true, false, Some};
 ghost use Rattle.network.specs.Net.{next as next_of, Entrance as EntranceOf, Exit as ExitOf, Walk};
-ghost use Rattle.network.specs.Layouts.{route_at, kind_at, IsKind, Inside};
+ghost use Rattle.network.specs.Layouts.{kind_at, IsKind, Inside};
 ghost use Rattle.network.specs.Nets.{net_of, Found};
 ghost use Rattle.network.specs.Scans.{IsOrNone};
 
@@ -131,6 +131,7 @@ impl Network {
     {
         let mut i = first;
         while self.end(i) != x {
+            // Not `let .. else`: tried, and the goal at its else has no name that stays.
             match self.next(i, x) {
                 None => return false,
                 Some(j) => i = j,

@@ -1,7 +1,7 @@
-// How a network takes in its routes, and the network that is there before any is read.
-ghost use Rattle.std.specs.Prelude.{◌≡◌, ℕ, ◌-◌, ◌<◌, ◌≤◌, true, false, Some, None, Decides};
+// How a network takes in its routes.
+ghost use Rattle.std.specs.Prelude.{◌≡◌, ◌-◌, ◌<◌, Some, Decides};
 ghost use Rattle.network.specs.Nets.{net_of};
-ghost use Rattle.network.specs.Drafts.{RouteFits, Routed, IsMerge, IsDiverge, IsExit, Leaving, with_route};
+ghost use Rattle.network.specs.Drafts.{RouteFits, Routed, IsMerge, IsDiverge, Leaving, with_route};
 
 use super::Network;
 use crate::draft::RouteFault;

@@ -1,24 +1,8 @@
 use Rattle.std.proofs.Common.{◌<◌, ◌≢◌, length, ap, ◌∙◌, arith, length-take}
 use Rattle.std.proofs.lemmas.List.{get_or_append_left}
 use Rattle.newell.specs.declared.records.StepRow.{StepRow}
-use Rattle.step.proofs.Noting.{off_same, on_same, still_more, note_more}
+use Rattle.step.proofs.Noting.{still_more, note_more}
 use Rattle.step.proofs.note.note_all.Goals as goal
-
-pub note_one-requires-clause-small : goal.note_one-requires-clause-small
-note_one-requires-clause-small c =
-    let i = c.loop-i.i in
-    let v = c.loop-i.invariant in
-    let s = c.requires.small i (omega (arith, length-take {A = StepRow})) in
-    omega (arith, s.1, c.from.ensures, c.count-on_it.ensures, ap length (v.still.holds i), off_same c.args.yard.now c.loop-i.yard i 0 (v.later i (omega arith)))
-
-pub note_one-requires-clause-more : goal.note_one-requires-clause-more
-note_one-requires-clause-more c =
-    let i = c.loop-i.i in
-    let v = c.loop-i.invariant in
-    let y = c.args.yard.now in
-    let u = v.later i (omega arith) in
-    let m = c.requires.more i (omega (arith, length-take {A = StepRow})) in
-    omega (arith, m, c.from.ensures, c.count-on_it.ensures, ap length (v.still.holds i), off_same y c.loop-i.yard i 0 u, on_same y c.loop-i.yard i 0 u)
 
 pub loop-i-preserved : goal.loop-i-preserved
 loop-i-preserved c =

@@ -1,4 +1,4 @@
-use Rattle.std.proofs.Common.{ℕ, ◌<◌, [], ◌∷◌, length, get_or, set, sym, ap, ◌∙◌, subst, arith}
+use Rattle.std.proofs.Common.{ℕ, rules, ◌<◌, [], ◌∷◌, length, get_or, set, sym, ap, ◌∙◌, subst, arith}
 use Rattle.newell.specs.Plain.{Greatest}
 use Rattle.newell.specs.Now.{Fit}
 use Rattle.network.specs.Nets.{net_of}
@@ -16,10 +16,11 @@ returns-in-Exit g c =
     let n = c.args.n in
     let i = c.in-Exit.from in
     let k = c.in-Exit.ensures.is in
-    let l : i < length c.args.outs.now = omega (arith, c.in-Exit.ensures.inside, c.requires.outs) in
+    let o = c.args.outs.now in
+    let l : i < length o = omega (arith, c.in-Exit.ensures.inside, c.requires.outs) in
     record {
-      passes = passes_exit net r m (λ q. get_or (set c.args.outs.now i c.sends.result) q 0) n i k.0 k.1 (put_same c.args.outs.now i c.sends.result l ∙ c.sends.ensures);
-      others = put_other net n c.args.outs.now i c.sends.result (in₁ net n i [] k.0).1;
+      passes = passes_exit net r m _ n i k.0 k.1 (search (rules, put_same, l));
+      others = put_other net n o i _ (in₁ net n i [] k.0).1;
       asked = asked_one net r n m i k.0;
     }
 
