@@ -1,4 +1,7 @@
 //! Why a file, or one of its rows, is not done.
+ghost use Rattle.std.specs.Prelude.{◌≡◌};
+ghost use Rattle.run.specs.Stores.{number as number_of};
+
 use reader::{FileFault, Position};
 use run::Refusal;
 use std::{fmt, io};
@@ -12,7 +15,10 @@ pub struct No {
 
 impl No {
     /// What a run refused, told where the row starts that asked for it.
-    pub fn at(refusal: Refusal, at: Position) -> No {
+    pub fn at(refusal: Refusal, at: Position) -> No
+        ensures number { result.number ≡ number_of refusal }
+        ensures at { result.at ≡ at }
+    {
         No {
             number: refusal.number(),
             at,
