@@ -1,19 +1,15 @@
--- What every curve and every yard keeps.
+-- What every yard keeps.
 use Rattle.std.proofs.Common.{◌≡◌, ℕ, length, sym, ap, ◌∙◌, subst, ⊎_elim, arith}
 use mathlib.Core.Logic.{∥∥₁_elim}
 use native.Mathlib.Nat.{ℕ_set}
 use native.Mathlib.Bridge.{le_prop}
 use Rattle.std.proofs.lemmas.Bool.{cases_eq}
-use Rattle.links.specs.declared.curve.Curve.{Curve}
 use Rattle.links.specs.declared.records.Table.{Table}
 use Rattle.links.specs.declared.records.Yard.{Yard}
-use Rattle.links.specs.Readings.{Full}
 use Rattle.line.specs.declared.shape.Part.{Part}
 use Rattle.links.specs.Tables.{lane_at, Lies, Marked}
 use Rattle.links.specs.Yards.{Laid, AllFull}
-
-pub full_of : (c : Curve) → Full c
-full_of c = record { wide = c.wide; inside = c.inside }
+use Rattle.links.proofs.Turning.{full_of}
 
 pub lies_prop : (wide : ℕ) (t : Table) → IsProp (Lies wide t)
 lies_prop wide t a b = λ z. record {

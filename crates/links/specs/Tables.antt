@@ -1,6 +1,5 @@
 -- The table of links, record by record.
 use Rattle.std.specs.Prelude.{◌≡◌, ℕ, ◌+◌, ◌-◌, ◌<◌, ◌≤◌, cond, ◌≢◌, length, replicate, None, Option, nat_lt, slice_index_or}
-use Prim.Native.Nat.{zero-le}
 use Rattle.line.specs.declared.shape.Part.{Part}
 use Rattle.line.specs.Parts.{fresh}
 use Rattle.links.specs.declared.curve.Curve.{Curve}
@@ -14,7 +13,7 @@ use Rattle.links.specs.Readings.{Next}
 
 -- records of a run just opened
 abbrev pub fresh_curve : Curve
-fresh_curve = record { slots = replicate reading_count 0; oldest = 0; wide = λ _. reading_count; inside = zero-le }
+fresh_curve = record { slots = replicate reading_count 0; oldest = 0; wide = λ _. reading_count }
 
 abbrev pub fresh_record : Part → Part → LinkRecord
 fresh_record road queue = record { road = road; queue = queue; ons = fresh_curve; offs = fresh_curve; travel = None }

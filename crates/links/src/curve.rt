@@ -13,23 +13,23 @@ pub struct Curve {
     pub slots: [u32; READINGS],
     pub oldest: usize,
     ghost wide: { length slots ≡ reading_count },
-    ghost inside: { oldest ≤ reading_count },
 }
 
 impl Curve {
-    ghost use Rattle.links.specs.Readings.{back as ago, Next};
+    ghost use Rattle.links.specs.Readings.{head_of, back as ago, Next};
 
-    // The queue of the readings. Only its head is kept: the rest of it is the same in all curves.
+    // The queue of the readings. Only its head is kept: the rest of it is the same in all curves. A
+    // head that has come to the end of the slots goes round to the first.
     fn queue(&self) -> Part
         ensures start { result.start ≡ 0 }
         ensures size { result.size ≡ reading_count }
-        ensures head { result.head ≡ self.now.oldest }
+        ensures head { result.head ≡ head_of self.now }
         ensures len { result.len ≡ reading_count }
     {
         Part {
             start: 0,
             size: READINGS,
-            head: self.oldest,
+            head: self.oldest % READINGS,
             len: READINGS,
         }
     }
@@ -41,7 +41,8 @@ impl Curve {
         let mut queue = self.queue();
         // The oldest is told to nobody.
         let _ = queue.take(&mut self.slots);
-        queue.push(&mut self.slots, x).unwrap();
+        // There is room, since the oldest has gone.
+        let _ = queue.push(&mut self.slots, x);
         self.oldest = queue.head;
     }
 

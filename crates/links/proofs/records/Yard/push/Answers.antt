@@ -10,11 +10,6 @@ use Rattle.links.proofs.records.Yard.push.Goals as goal
 pub push-requires : goal.push-requires
 push-requires c = record { room = placed_of c.args.self.now (lane_no c.args.side c.args.i) c.lane-lane.result (lane_few c.args.side c.args.i c.requires.here) c.lane-lane.ensures }
 
-pub unwrap-requires : goal.unwrap-requires
-unwrap-requires c =
-    let p = c.lane-lane.result in
-    c.push.ensures.told ∙ lt-ltb p.len p.size (has_room c.args.self.now (lane_no c.args.side c.args.i) p (lane_few c.args.side c.args.i c.requires.here) c.lane-lane.ensures c.requires.room)
-
 pub invariant_of-self : goal.invariant_of-self
 invariant_of-self c =
     let y = c.args.self.now in
