@@ -5,7 +5,7 @@ use Rattle.std.proofs.lemmas.List.{length-set, take-set-le, drop-set-lt, get_or-
 use Rattle.std.proofs.lemmas.Bool.{cond-true, lt-ltb}
 use Rattle.std.proofs.lemmas.Bool.Decides.{nat_tests}
 use Rattle.line.specs.Ring.{slot_of, passed}
-use Rattle.line.specs.Parts.{Around, part_of}
+use Rattle.line.specs.Parts.{Sound, Around, part_of}
 use Rattle.line.specs.Spots.{Spots, round, wrote, written, spots_in}
 use Rattle.line.specs.declared.shape.Part.{Part}
 use Rattle.line.proofs.Pieces.{length_part, part_back, slot_inside}
@@ -33,19 +33,19 @@ module _ {X : Type 0} (area : List X) (p : Part) (room : p.start + p.size ≤ le
   pub around_set : (at : ℕ) (x : X) → at < p.size → Around p.start p.size area (set area (p.start + at) x)
   around_set at x l = record { before = take-set-le p.start area (p.start + at) x (omega arith); after = drop-set-lt (p.start + p.size) area (p.start + at) x (omega arith) }
 
-  module _ (p' : Part) (start : p'.start ≡ p.start) (size : p'.size ≡ p.size) where
+  module _ (sound : Sound p) (p' : Part) (start : p'.start ≡ p.start) (size : p'.size ≡ p.size) where
     pub spots_take : p'.head ≡ passed p.size p.head p.len → p'.len ≡ p.len - 1 → spots_in area p' ≡ spots_in area p
     spots_take h l = ap₂ (λ s n. record { slots = s; tail = n })
         (ap₂ (λ a n. part_of a n area) start size)
-        (rw (size, h, l) (tail_take p.size p.head p.len p.inside p.fits))
+        (rw (size, h, l) (tail_take p.size p.head p.len sound.inside sound.fits))
 
     pub spots_push : (x : X) → p.len < p.size → p'.head ≡ p.head → p'.len ≡ p.len + 1 → spots_in (set area (p.start + slot_of p.size p.head p.len) x) p' ≡ wrote (spots_in area p) x
     spots_push x few h l =
         let at = slot_of p.size p.head p.len in
-        let here = tail_here p.size p.head p.len p.inside few in
+        let here = tail_here p.size p.head p.len sound.inside few in
         ap₂ (λ s n. record { slots = s; tail = n })
-        (ap₂ (λ a n. part_of a n (set area (p.start + at) x)) start size ∙ part_set at x (slot_inside p.size p.head p.len p.inside few) ∙ ap (λ k. set (part_of p.start p.size area) k x) (sym here))
-        (rw (size, h, l) (tail_push p.size p.head p.len p.inside few) ∙ ap₂ (λ n k. round n (k + 1)) (sym (length_part area p.start p.size room)) (sym here))
+        (ap₂ (λ a n. part_of a n (set area (p.start + at) x)) start size ∙ part_set at x (slot_inside p.size p.head p.len sound.inside few) ∙ ap (λ k. set (part_of p.start p.size area) k x) (sym here))
+        (rw (size, h, l) (tail_push p.size p.head p.len sound.inside few) ∙ ap₂ (λ n k. round n (k + 1)) (sym (length_part area p.start p.size room)) (sym here))
 
 pub around_same : {X : Type 0} (start size : ℕ) (area : List X) → Around start size area area
 around_same start size area = record { before = refl; after = refl }

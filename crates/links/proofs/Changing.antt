@@ -6,7 +6,7 @@ use Rattle.std.proofs.lemmas.Bool.{cases_lt}
 use Rattle.std.proofs.lemmas.List.{length-set}
 use Rattle.line.specs.Ring.{held, slot_of, passed}
 use Rattle.line.specs.Spots.{spots_in, wrote, round}
-use Rattle.line.specs.Parts.{Around, part_of, queue}
+use Rattle.line.specs.Parts.{Sound, Around, part_of, queue}
 use Rattle.line.specs.declared.shape.Part.{Part}
 use Rattle.line.proofs.Pieces.{part_before, part_behind, length_part, slot_inside}
 use Rattle.line.proofs.Rings.{length_held}
@@ -34,6 +34,9 @@ module _ (y y' : Yard) (k : ℕ) (p l : Part) (b : k < 96) (read : p ≡ lane_at
 
   size_here : p.size ≡ (lane_at y.table k).size
   size_here = ap (λ (x : Part). x.size) read
+
+  sound : Sound p
+  sound = subst Sound (sym read) (laid.sound k b)
 
   lays : p.start + p.size ≤ length y.area.now
   lays = omega (arith, laid.placed k b, start_here, size_here)
@@ -91,22 +94,25 @@ module _ (y y' : Yard) (k : ℕ) (p l : Part) (b : k < 96) (read : p ≡ lane_at
 
     pub took_spots : l.head ≡ passed p.size p.head p.len → l.len ≡ p.len - 1 → spots_of y' k ≡ spots_of y k
     unfolding spots_of
-    took_spots h n = ap₂ spots_in area put_in.here ∙ spots_take y.area.now p lays l start size h n ∙ ap (spots_in y.area.now) read
+    took_spots h n = ap₂ spots_in area put_in.here ∙ spots_take y.area.now p lays sound l start size h n ∙ ap (spots_in y.area.now) read
 
   -- one comes to it
   module _ (v : Vehicle) (room : p.len < p.size) (area : y'.area.now ≡ set y.area.now (p.start + slot_of p.size p.head p.len) v) where
     pub came : (vs : List Vehicle) → queue y'.area.now l ≡ vs → Put y y' k vs
     came vs f = put
-        (subst (λ a. Around p.start p.size y.area.now a) (sym area) (around_set y.area.now p lays _ v (slot_inside p.size p.head p.len p.inside room)))
+        (subst (λ a. Around p.start p.size y.area.now a) (sym area) (around_set y.area.now p lays _ v (slot_inside p.size p.head p.len sound.inside room)))
         (ap length area ∙ length-set y.area.now _ v) vs f
 
     pub came_spots : l.head ≡ p.head → l.len ≡ p.len + 1 → spots_of y' k ≡ wrote (spots_of y k) v
     unfolding spots_of
-    came_spots h n = ap₂ spots_in area put_in.here ∙ spots_push y.area.now p lays l start size v room h n ∙ ap (λ (x : Part). wrote (spots_in y.area.now x) v) read
+    came_spots h n = ap₂ spots_in area put_in.here ∙ spots_push y.area.now p lays sound l start size v room h n ∙ ap (λ (x : Part). wrote (spots_in y.area.now x) v) read
 
--- a lane that was read out lies in the area
+-- a lane that was read out lies in the area, and its entries in its slots
 pub placed_of : (y : Yard) (k : ℕ) (l : Part) → k < 96 → l ≡ lane_at y.table k → l.start + l.size ≤ length y.area.now
 placed_of y k l b e = subst (λ (x : Part). x.start + x.size ≤ length y.area.now) (sym e) ((laid_of y).placed k b)
+
+pub sound_of : (y : Yard) (k : ℕ) (l : Part) → k < 96 → l ≡ lane_at y.table k → Sound l
+sound_of y k l b e = subst Sound (sym e) ((laid_of y).sound k b)
 
 pub holds_of : (y : Yard) (k : ℕ) (l : Part) → l ≡ lane_at y.table k → queue y.area.now l ≡ holds y k
 unfolding holds
@@ -116,14 +122,15 @@ holds_of y k l e = ap (queue y.area.now) e
 pub count_of : (y : Yard) (k : ℕ) (l : Part) → k < 96 → l ≡ lane_at y.table k → l.len ≡ length (holds y k)
 count_of y k l b e =
     let n = length_part y.area.now l.start l.size (placed_of y k l b e) in
-    sym (length_held (part_of l.start l.size y.area.now) l.head (omega (arith, n, l.inside)) l.len (omega (arith, n, l.fits))) ∙ ap length (holds_of y k l e)
+    let s = sound_of y k l b e in
+    sym (length_held (part_of l.start l.size y.area.now) l.head (omega (arith, n, s.inside)) l.len (omega (arith, n, s.fits))) ∙ ap length (holds_of y k l e)
 
 size_at : (y : Yard) (k : ℕ) (l : Part) → l ≡ lane_at y.table k → l.size ≡ size_of y k
 unfolding size_of
 size_at y k l e = ap (λ (x : Part). x.size) e
 
 pub fits : (y : Yard) (k : ℕ) → k < 96 → length (holds y k) ≤ size_of y k
-fits y k b = omega (arith, count_of y k _ b refl, size_at y k _ refl, (lane_at y.table k).fits)
+fits y k b = omega (arith, count_of y k _ b refl, size_at y k _ refl, ((laid_of y).sound k b).fits)
 
 -- a lane that has room takes one more
 pub has_room : (y : Yard) (k : ℕ) (l : Part) → k < 96 → l ≡ lane_at y.table k → length (holds y k) < size_of y k → l.len < l.size

@@ -1,5 +1,5 @@
 -- What every yard keeps.
-use Rattle.std.proofs.Common.{◌≡◌, ℕ, length, sym, ap, ◌∙◌, subst, ⊎_elim, arith}
+use Rattle.std.proofs.Common.{◌≡◌, ℕ, ◌<◌, length, sym, ap, ◌∙◌, subst, ⊎_elim, arith}
 use mathlib.Core.Logic.{∥∥₁_elim}
 use native.Mathlib.Nat.{ℕ_set}
 use native.Mathlib.Bridge.{le_prop}
@@ -7,6 +7,7 @@ use Rattle.std.proofs.lemmas.Bool.{cases_eq}
 use Rattle.links.specs.declared.records.Table.{Table}
 use Rattle.links.specs.declared.records.Yard.{Yard}
 use Rattle.line.specs.declared.shape.Part.{Part}
+use Rattle.line.specs.Parts.{Sound}
 use Rattle.links.specs.Tables.{lane_at, Lies, Marked}
 use Rattle.links.specs.Yards.{Laid, AllFull}
 use Rattle.links.proofs.Turning.{full_of}
@@ -15,6 +16,7 @@ pub lies_prop : (wide : ℕ) (t : Table) → IsProp (Lies wide t)
 lies_prop wide t a b = λ z. record {
   whole = ℕ_set _ _ a.whole b.whole z;
   placed = λ k l. le_prop (a.placed k l) (b.placed k l) z;
+  sound = λ k l. record { inside = le_prop (a.sound k l).inside (b.sound k l).inside z; fits = le_prop (a.sound k l).fits (b.sound k l).fits z };
   apart = λ j k l h. le_prop (a.apart j k l h) (b.apart j k l h) z;
 }
 
@@ -26,10 +28,12 @@ all_full y = record { whole = (laid_of y).whole; ons = λ i l. full_of _; offs =
 
 -- lanes that lie where they lay
 pub lies_on : (w w' : ℕ) (t t' : Table) → Lies w t → w' ≡ w → length t'.links ≡ length t.links
-    → ((j : ℕ) → (lane_at t' j).start ≡ (lane_at t j).start) → ((j : ℕ) → (lane_at t' j).size ≡ (lane_at t j).size) → Lies w' t'
-lies_on w w' t t' l wide whole starts sizes = record {
+    → ((j : ℕ) → (lane_at t' j).start ≡ (lane_at t j).start) → ((j : ℕ) → (lane_at t' j).size ≡ (lane_at t j).size)
+    → ((j : ℕ) → j < 96 → Sound (lane_at t' j)) → Lies w' t'
+lies_on w w' t t' l wide whole starts sizes sound = record {
   whole = whole ∙ l.whole;
   placed = λ k h. omega (arith, l.placed k h, wide, starts k, sizes k);
+  sound = sound;
   apart = λ j k lt h. omega (arith, l.apart j k lt h, starts j, sizes j, starts k);
 }
 
@@ -44,5 +48,6 @@ module _ (t t' : Table) (k : ℕ) (p l : Part) (read : p ≡ lane_at t k) (put_i
   pub sizes_kept : (j : ℕ) → (lane_at t' j).size ≡ (lane_at t j).size
   sizes_kept = as_read (λ (x : Part). x.size) size
 
-  pub lies_put : (w w' : ℕ) → Lies w t → w' ≡ w → Lies w' t'
-  lies_put w w' lies wide = lies_on w w' t t' lies wide put_in.whole starts_kept sizes_kept
+  pub lies_put : (w w' : ℕ) → Lies w t → w' ≡ w → Sound l → Lies w' t'
+  lies_put w w' lies wide sound = lies_on w w' t t' lies wide put_in.whole starts_kept sizes_kept
+      (λ j h. ⊎_elim (λ (q : j ≡ k). subst Sound (sym (ap (lane_at t') q ∙ put_in.here)) sound) (λ ne. subst Sound (sym (put_in.others j ne)) (lies.sound j h)) (cases_eq j k))

@@ -2,7 +2,7 @@
 use Rattle.std.proofs.Common.{◌≡◌, ℕ, ◌-◌, cond, ltb, ◌≢◌, length, get_or, Option, sym, ap, subst, ap₂, ⊎_elim}
 use Rattle.std.proofs.lemmas.Bool.{cases_eq}
 use Rattle.line.specs.declared.shape.Part.{Part}
-use Rattle.line.specs.Parts.{queue}
+use Rattle.line.specs.Parts.{Sound, queue}
 use Rattle.line.specs.Spots.{spots_in}
 use Rattle.links.specs.declared.records.LinkRecord.{LinkRecord}
 use Rattle.links.specs.declared.records.Table.{Table}
@@ -21,6 +21,7 @@ module _ (t t' : Table) (i on off : ℕ) (time : Option ℕ) (read : Read (recor
 
   pub lies_noted : (w w' : ℕ) → Lies w t → w' ≡ w → Lies w' t'
   lies_noted w w' lies wide = lies_on w w' t t' lies wide rest.whole (λ l. ap (λ (x : Part). x.start) (lanes_kept l)) (λ l. ap (λ (x : Part). x.size) (lanes_kept l))
+      (λ l h. subst Sound (sym (lanes_kept l)) (lies.sound l h))
 
 module _ (y y' : Yard) (i on off : ℕ) (time : Option ℕ) (read : Read (record_at y.table i) on off time (record_at y'.table i)) (rest : Changed y.table i y'.table)
     (area : y'.area.now ≡ y.area.now) (tied : y'.area.ghost_name ≡ y.area.ghost_name) where

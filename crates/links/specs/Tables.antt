@@ -1,7 +1,7 @@
 -- The table of links, record by record.
 use Rattle.std.specs.Prelude.{◌≡◌, ℕ, ◌+◌, ◌-◌, ◌<◌, ◌≤◌, cond, ◌≢◌, length, replicate, None, Option, nat_lt, slice_index_or}
 use Rattle.line.specs.declared.shape.Part.{Part}
-use Rattle.line.specs.Parts.{fresh}
+use Rattle.line.specs.Parts.{Sound, fresh}
 use Rattle.links.specs.declared.curve.Curve.{Curve}
 use Rattle.links.specs.declared.records.LinkRecord.{LinkRecord}
 use Rattle.links.specs.declared.records.Table.{Table}
@@ -72,8 +72,9 @@ pub record Marked (t : Table) (k : ℕ) (l : Part) (t' : Table) : Type 0 where
   pub gauges : (i : ℕ) → gauge_in (record_at t' i) ≡ gauge_in (record_at t i)
   pub whole : length t'.links ≡ length t.links
 
--- the lanes lie in an area of `wide` slots, one behind the other
+-- the lanes lie in an area of `wide` slots, one behind the other, and the entries of each in its slots
 pub record Lies (wide : ℕ) (t : Table) : Type 0 where
   pub whole : length t.links ≡ table_size
   pub placed : (k : ℕ) → k < lane_count → (lane_at t k).start + (lane_at t k).size ≤ wide
+  pub sound : (k : ℕ) → k < lane_count → Sound (lane_at t k)
   pub apart : (j k : ℕ) → j < k → k < lane_count → (lane_at t j).start + (lane_at t j).size ≤ (lane_at t k).start

@@ -25,7 +25,7 @@ spots_of y k = spots_in y.area.now (lane_at y.table k)
 abbrev pub gauge_of : Yard → ℕ → Gauge
 gauge_of y i = gauge_in (record_at y.table i)
 
--- the lanes lie in the area, one behind the other
+-- the lanes lie in the area, one behind the other, and the entries of each in its slots
 abbrev pub Laid : Yard → Type 0
 Laid y = Lies (length y.area.now) y.table
 

@@ -9,7 +9,7 @@ use Rattle.network.specs.Nets.{net_of}
 use Rattle.network.proofs.Rights.{right_of}
 use Rattle.network.specs.Net.{Net, Entrance, entering}
 use Rattle.links.specs.declared.records.LinkRecord.{LinkRecord}
-use Rattle.line.specs.Parts.{fresh, queue}
+use Rattle.line.specs.Parts.{Sound, fresh, queue}
 use Rattle.links.specs.Tables.{blank_record, fresh_curve, lane_at, Gauge, gauge_in, Lies}
 use Rattle.network.proofs.Sorts.{off₁}
 use Rattle.newell.specs.Now.{Opened}
@@ -107,6 +107,9 @@ fresh_back : (q : ℕ) → back fresh_curve q ≡ 0
 unfolding back
 fresh_back q = zeros 64 (63 - q) 0
 
+fresh_sound : (start size : ℕ) → Sound (fresh start size)
+fresh_sound start size = record { inside = omega arith; fits = omega arith }
+
 module _ (net : Net) (t : Table) (new : Fresh net t) where
   lane_is : (k : ℕ) → k < 96 → lane_at t k ≡ fresh (offset net k) (size_at net k)
   lane_is k h = ⊎_elim
@@ -128,6 +131,7 @@ module _ (net : Net) (t : Table) (new : Fresh net t) where
   lies wide room = record {
     whole = new.whole;
     placed = λ k h. let u = up net (suc k) 96 h in omega (arith, start_is k h, size_is k h, room, u, offset_step net k);
+    sound = λ k h. subst Sound (sym (lane_is k h)) (fresh_sound (offset net k) (size_at net k));
     apart = λ j k l h. let g : j < 96 = omega arith in let u = up net (suc j) k l in omega (arith, start_is j g, size_is j g, start_is k h, u, offset_step net j);
   }
 

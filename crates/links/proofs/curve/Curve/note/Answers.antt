@@ -20,4 +20,4 @@ returns c =
       len = omega (arith, p.len ∙ cond-true (is_ok c.push.result) _ _ yes, t.len, q.len);
     } in
     let held_after = as_held c.push.new.area c.push.new.self c.push.new.self.head whole in
-    next_of curve _ c.args.x (omega (arith, whole.size, c.push.new.self.inside)) (sym held_after ∙ p.holds ∙ cond-true (is_ok c.push.result) _ _ yes ∙ ap (λ xs. xs ++ c.args.x ∷ []) (t.holds ∙ ap rest held_before))
+    next_of curve _ c.args.x (omega (arith, whole.size, p.sound.inside)) (sym held_after ∙ p.holds ∙ cond-true (is_ok c.push.result) _ _ yes ∙ ap (λ xs. xs ++ c.args.x ∷ []) (t.holds ∙ ap rest held_before))

@@ -2,7 +2,7 @@ use Rattle.std.proofs.Common.{ap, ◌∙◌, arith}
 use Rattle.std.specs.List.{slice_get}
 use Rattle.links.specs.Tables.{lane_no}
 use Rattle.links.specs.Yards.{holds}
-use Rattle.links.proofs.Changing.{lane_few, count_of, placed_of, holds_of, looked}
+use Rattle.links.proofs.Changing.{lane_few, count_of, placed_of, sound_of, holds_of, looked}
 use Rattle.links.proofs.records.Yard.look.Goals as goal
 
 pub look-requires : goal.look-requires
@@ -12,7 +12,7 @@ look-requires c =
     let b = lane_few c.args.side c.args.i c.requires.here in
     let l = c.lane-lane.result in
     let e = c.lane-lane.ensures in
-    record { room = placed_of y k l b e; here = omega (arith, c.requires.some, count_of y k l b e) }
+    record { room = placed_of y k l b e; sound = sound_of y k l b e; here = omega (arith, c.requires.some, count_of y k l b e) }
 
 pub returns : goal.returns
 returns c =

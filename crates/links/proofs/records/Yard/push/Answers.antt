@@ -4,11 +4,17 @@ use Rattle.std.proofs.lemmas.List.{length-set}
 use Rattle.links.specs.Tables.{lane_no}
 use Rattle.links.specs.Yards.{holds}
 use Rattle.links.proofs.Keeping.{laid_of, lies_put}
-use Rattle.links.proofs.Changing.{lane_few, placed_of, holds_of, has_room, came, came_spots}
+use Rattle.links.proofs.Changing.{lane_few, placed_of, sound_of, holds_of, has_room, came, came_spots}
 use Rattle.links.proofs.records.Yard.push.Goals as goal
 
 pub push-requires : goal.push-requires
-push-requires c = record { room = placed_of c.args.self.now (lane_no c.args.side c.args.i) c.lane-lane.result (lane_few c.args.side c.args.i c.requires.here) c.lane-lane.ensures }
+push-requires c =
+    let y = c.args.self.now in
+    let k = lane_no c.args.side c.args.i in
+    let b = lane_few c.args.side c.args.i c.requires.here in
+    let l = c.lane-lane.result in
+    let e = c.lane-lane.ensures in
+    record { room = placed_of y k l b e; sound = sound_of y k l b e }
 
 pub invariant_of-self : goal.invariant_of-self
 invariant_of-self c =
@@ -19,7 +25,7 @@ invariant_of-self c =
     let t = c.push.ensures in
     let yes = t.told ∙ lt-ltb p.len p.size (has_room y k p (lane_few c.args.side c.args.i c.requires.here) e c.requires.room) in
     let wide = ap length (t.area ∙ cond-true (is_ok c.push.result) _ _ yes) ∙ length-set y.area.now _ c.args.v in
-    record { laid = ∣ lies_put y.table c.put_lane.new.self k p c.push.new.self e c.put_lane.ensures t.start t.size _ _ (laid_of y) wide ∣₁ }
+    record { laid = ∣ lies_put y.table c.put_lane.new.self k p c.push.new.self e c.put_lane.ensures t.start t.size _ _ (laid_of y) wide t.sound ∣₁ }
 
 pub returns : goal.returns
 returns c =

@@ -3,17 +3,23 @@ use Rattle.line.specs.Ring.{first, rest}
 use Rattle.links.specs.Tables.{lane_no}
 use Rattle.links.specs.Yards.{holds}
 use Rattle.links.proofs.Keeping.{laid_of, lies_put}
-use Rattle.links.proofs.Changing.{lane_few, placed_of, holds_of, took, took_spots}
+use Rattle.links.proofs.Changing.{lane_few, placed_of, sound_of, holds_of, took, took_spots}
 use Rattle.links.proofs.records.Yard.take.Goals as goal
 
 pub take-v-requires : goal.take-v-requires
-take-v-requires c = record { room = placed_of c.args.self.now (lane_no c.args.side c.args.i) c.lane-lane.result (lane_few c.args.side c.args.i c.requires.here) c.lane-lane.ensures }
+take-v-requires c =
+    let y = c.args.self.now in
+    let k = lane_no c.args.side c.args.i in
+    let b = lane_few c.args.side c.args.i c.requires.here in
+    let l = c.lane-lane.result in
+    let e = c.lane-lane.ensures in
+    record { room = placed_of y k l b e; sound = sound_of y k l b e }
 
 pub invariant_of-self : goal.invariant_of-self
 invariant_of-self c =
     let y = c.args.self.now in
     let t = c.take-v.ensures in
-    record { laid = ∣ lies_put y.table c.put_lane.new.self (lane_no c.args.side c.args.i) c.lane-lane.result c.take-v.new.self c.lane-lane.ensures c.put_lane.ensures t.start t.size _ _ (laid_of y) (ap length t.area) ∣₁ }
+    record { laid = ∣ lies_put y.table c.put_lane.new.self (lane_no c.args.side c.args.i) c.lane-lane.result c.take-v.new.self c.lane-lane.ensures c.put_lane.ensures t.start t.size _ _ (laid_of y) (ap length t.area) t.sound ∣₁ }
 
 pub returns : goal.returns
 returns c =
