@@ -11,13 +11,17 @@ use Rattle.newell.specs.declared.records.StepRow.{StepRow}
 use Rattle.line.specs.Spots.{written}
 use Rattle.links.specs.declared.records.Yard.{Yard}
 use Rattle.links.specs.Yards.{spots_of, Beyond}
-use Rattle.step.specs.Steps.{Advanced}
+use Rattle.step.specs.Steps.{Built, Advanced}
 use Rattle.run.specs.declared.store.Store.{Store}
 use Rattle.run.specs.declared.store.Refusal.{Refusal}
 use Rattle.run.specs.declared.store.Refusal.TheVariants.{SmallArea, NoEntrance, NoExit, Unserved, BadCount, NoPlace, Late, NoLink, FewRows}
 
 abbrev pub view_in : Store → RunNow
 view_in s = view_of s.yard s.clock
+
+-- the yard is laid out for the network
+abbrev pub BuiltIn : Store → Type 0
+BuiltIn s = Built (net_of s.net) s.yard
 
 -- each refusal's number
 abbrev pub number : Refusal → ℕ

@@ -6,7 +6,7 @@ ghost use Rattle.network.specs.Nets.{net_of};
 ghost use Rattle.newell.specs.History.{ask_entrance as asking_in, ask_exit as asking_out};
 ghost use Rattle.newell.specs.Now.{Reached, Queued, state_now, Carries};
 ghost use Rattle.step.specs.Steps.{Advanced};
-ghost use Rattle.run.specs.Stores.{view_in, FoundOr, Judged, StepJudged, EntranceTold, ExitTold, AreaBooked, answer_of};
+ghost use Rattle.run.specs.Stores.{view_in, BuiltIn, FoundOr, Judged, StepJudged, EntranceTold, ExitTold, AreaBooked, answer_of};
 ghost use Rattle.run.specs.declared.store.Refusal.TheVariants.{NoEntrance, NoExit};
 
 use crate::run::stepping::LAST;
@@ -70,12 +70,14 @@ impl<'a> Store<'a> {
 
     // The step from the clock.
     pub fn advance<R: MergeRule>(&mut self, rule: &mut R, rows: &mut [StepRow])
+        requires built { BuiltIn self.old }
         requires reached { Reached (net_of self.old.net) (view_in self.old) }
         requires early { self.old.clock < 1000000 }
         requires rows { (net_of self.old.net).links ≤ length rows.old }
         ensures advanced { Advanced (net_of self.old.net) self.old.clock self.old.yard (R.MergeRule.meaning rule.old) rows.old self.new.yard (R.MergeRule.meaning rule.new) rows.new }
         ensures clock { self.new.clock ≡ self.old.clock + 1 }
         ensures same { self.new.yard.area.ghost_name ≡ self.old.yard.area.ghost_name }
+        ensures built { BuiltIn self.new }
         ensures net { self.new.net ≡ self.old.net }
     {
         let tick = Tick::new(self.clock);
@@ -85,6 +87,7 @@ impl<'a> Store<'a> {
 
     // What a question about a link tells.
     pub fn tell(&self, i: usize) -> LinkState
+        requires built { BuiltIn self.now }
         requires reached { Reached (net_of self.now.net) (view_in self.now) }
         requires here { i < (net_of self.now.net).links }
         ensures { result ≡ state_now (net_of self.now.net) (view_in self.now) i }
@@ -104,11 +107,13 @@ impl<'a> Store<'a> {
 
     // `n` vehicles for `x` wait for the link `j`.
     pub fn queue_up(&mut self, j: usize, x: u8, n: usize)
+        requires built { BuiltIn self.old }
         requires link { j < (net_of self.old.net).links }
         requires room { length (holds self.old.yard (48 + j)) + n ≤ size_of self.old.yard (48 + j) }
         ensures queued { Queued (net_of self.old.net) (view_in self.old) j x n (view_in self.new) }
         ensures area { AreaBooked self.old.yard j x n self.new.yard }
         ensures same { self.new.yard.area.ghost_name ≡ self.old.yard.area.ghost_name }
+        ensures built { BuiltIn self.new }
         ensures net { self.new.net ≡ self.old.net }
     {
         queue_up(&mut self.yard, j, x, n);
@@ -130,6 +135,7 @@ impl<'a> Store<'a> {
 
     // The checks of a booking, in their order; tells the entrance's link.
     pub fn judge(&self, e: u16, x: u16, n: u16) -> Result<usize, Refusal>
+        requires { BuiltIn self.now }
         ensures { Judged (net_of self.now.net) (view_in self.now) e x n result }
     {
         let j = self.entrance(e)?;
@@ -148,6 +154,7 @@ impl<'a> Store<'a> {
 
     // How many wait at the entrance `e`.
     pub fn waiting(&self, e: u16) -> Result<usize, Refusal>
+        requires { BuiltIn self.now }
         ensures told { EntranceTold (net_of self.now.net) (view_in self.now) e result }
         ensures carries { Carries (net_of self.now.net) (view_in self.now) (asking_in e (answer_of result)) (view_in self.now) }
     {
@@ -157,6 +164,7 @@ impl<'a> Store<'a> {
 
     // How many are gone at the exit `x`.
     pub fn gone(&self, x: u16) -> Result<u32, Refusal>
+        requires { BuiltIn self.now }
         ensures told { ExitTold (net_of self.now.net) (view_in self.now) x result }
         ensures carries { Carries (net_of self.now.net) (view_in self.now) (asking_out x (answer_of result)) (view_in self.now) }
     {

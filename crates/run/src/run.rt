@@ -1,7 +1,7 @@
 // The run's record and its invariant.
 ghost use Rattle.network.specs.Nets.{net_of};
 ghost use Rattle.newell.specs.Now.{Reached};
-ghost use Rattle.run.specs.Stores.{view_in};
+ghost use Rattle.run.specs.Stores.{view_in, BuiltIn};
 
 use crate::store::Store;
 
@@ -10,9 +10,10 @@ pub mod book;
 pub mod make;
 pub mod stepping;
 
-// Some calls led to what it holds.
+// Its yard is laid out for its network, and some calls led to what it holds.
 #[derive(Drop)]
 pub struct Run<'a> {
     store: Store<'a>,
+    ghost built: { BuiltIn store },
     ghost reached: { Reached (net_of store.net) (view_in store) },
 }

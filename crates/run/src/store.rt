@@ -1,17 +1,13 @@
 // What a run holds, and why it says no.
-ghost use Rattle.network.specs.Nets.{net_of};
-ghost use Rattle.step.specs.Steps.{Built};
-
 use links::Yard;
 use network::Network;
 
-// The yard is laid out for the network.
+// No invariant of its own: the run has it.
 #[derive(Drop)]
 pub struct Store<'a> {
     pub net: Network,
     pub yard: Yard<'a>,
     pub clock: u32,
-    ghost built: { Built (net_of net) yard },
 }
 
 // Each has the number that it prints.

@@ -24,9 +24,11 @@ pub queue_up-requires : goal.queue_up-requires
 queue_up-requires c =
     let s = c.args.self.now.store in
     let b = c.in_ok-j.ensures in
+    let u = c.args.self.now.built in
     record {
+      built = u;
       link = (off₁ (net_of s.net) c.args.e _ [] b.entrance.1).0;
-      room = omega (arith, c.from.ensures, b.room, exits_length (holds s.yard (48 + c.in_ok-j.j)), s.built.waits c.args.e c.in_ok-j.j b.entrance);
+      room = omega (arith, c.from.ensures, b.room, exits_length (holds s.yard (48 + c.in_ok-j.j)), u.waits c.args.e c.in_ok-j.j b.entrance);
     }
 
 -- the plain run is carried on
@@ -40,6 +42,7 @@ invariant_of-self c =
     let s = c.args.self.now.store in
     let s' = c.queue_up.new.self in
     record {
+      built = c.queue_up.ensures.built;
       reached = subst (λ (n : Network). Reached (net_of n) (view_in s')) (sym c.queue_up.ensures.net)
           (reached_on (net_of s.net) (view_in s) _ (view_in s') (booked (goal.at.invariant_of-self c).After-queue_up) c.args.self.now.reached);
     }

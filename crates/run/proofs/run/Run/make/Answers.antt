@@ -9,12 +9,9 @@ pub invariant_of-yard : goal.invariant_of-yard
 invariant_of-yard c = record { laid = ∣ lies (net_of c.args.net) _ c.lay-table.ensures _ c.requires ∣₁ }
 
 pub invariant_of-result : goal.invariant_of-result
-invariant_of-result c = let n = c.args.net in record { built = built (net_of n) _ (right_of n).count c.lay-table.ensures }
-
-pub invariant_of-result-2 : goal.invariant_of-result-2
-invariant_of-result-2 c =
+invariant_of-result c =
     let n = c.args.net in
-    let o = opened (net_of n) _ (right_of n).count c.lay-table.ensures in record { reached = ∣ ([], opening_starts (net_of n) (sound_of n.layout (right_of n)) _ o) ∣₁ }
+    let o = opened (net_of n) _ (right_of n).count c.lay-table.ensures in record { built = built (net_of n) _ (right_of n).count c.lay-table.ensures; reached = ∣ ([], opening_starts (net_of n) (sound_of n.layout (right_of n)) _ o) ∣₁ }
 
 pub returns : goal.returns
 returns c =

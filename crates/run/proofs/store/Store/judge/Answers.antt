@@ -65,7 +65,7 @@ place_for-requires c =
     let s = c.args.self.now in
     let b = entrance_place s.net c.args.e c.in_ok-j.j c.in_ok-j.ensures in
     let l : 48 + c.in_ok-j.j < 96 = omega (arith, b) in
-    omega (arith, fits s.yard (48 + c.in_ok-j.j) l, s.built.waits c.args.e c.in_ok-j.j c.in_ok-j.ensures, c.count.ensures)
+    omega (arith, fits s.yard (48 + c.in_ok-j.j) l, c.requires.waits c.args.e c.in_ok-j.j c.in_ok-j.ensures, c.count.ensures)
 
 pub returns-then-not-place_for : goal.returns-then-not-place_for
 returns-then-not-place_for c =

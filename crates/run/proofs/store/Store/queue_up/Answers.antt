@@ -13,5 +13,5 @@ returns-clause-queued c =
     let few = (right_of s.net).count in
     queued (net_of s.net) s.yard c.queue_up.new.yard s.clock c.args.j c.args.x c.args.n few (omega (arith, c.requires.link, few)) c.queue_up.ensures.put
 
-pub invariant_of-self : goal.invariant_of-self
-invariant_of-self c = let s = c.args.self.now in record { built = built_still (net_of s.net) s.yard c.queue_up.new.yard (48 + c.args.j) _ s.built c.queue_up.ensures.put }
+pub returns-clause-built : goal.returns-clause-built
+returns-clause-built c = let s = c.args.self.now in built_still (net_of s.net) s.yard c.queue_up.new.yard (48 + c.args.j) _ c.requires.built c.queue_up.ensures.put
