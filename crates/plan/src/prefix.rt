@@ -38,9 +38,9 @@ pub fn prefix(net: &Network, yard: &Yard, i: usize, j: usize, j2: usize) -> u16
     requires two { j2 < (net_of net.now).links }
     ensures { (t : ℕ) → Greatest (Fit (net_of net.now) (view_of yard.now t) i j j2) result }
 {
-    let sends = may_send(net, yard, i);
-    let room = may_take(net, yard, j);
-    let room2 = may_take(net, yard, j2);
+    let sends = may_send(net, &yard.table, i);
+    let room = may_take(net, &yard.table, j);
+    let room2 = may_take(net, &yard.table, j2);
     let mut one = 0;
     let mut two = 0;
     'count: {

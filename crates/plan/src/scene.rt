@@ -24,7 +24,7 @@ impl<'a> Scene<'a> {
         requires { i < (net_of self.now.net.now).links }
         ensures { result ≡ sends_of (net_of self.now.net.now) self.now.yard.now i }
     {
-        may_send(self.net, self.yard, i)
+        may_send(self.net, &self.yard.table, i)
     }
 
     // What the link `j` may take.
@@ -32,7 +32,7 @@ impl<'a> Scene<'a> {
         requires { j < (net_of self.now.net.now).links }
         ensures { result ≡ takes_of (net_of self.now.net.now) self.now.yard.now j }
     {
-        may_take(self.net, self.yard, j)
+        may_take(self.net, &self.yard.table, j)
     }
 
     // What a rule is asked at a merge of the links `i` and `i2` into `j`.

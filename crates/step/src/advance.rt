@@ -35,7 +35,7 @@ pub fn advance<R: MergeRule>(
     let mut takes = [0; LINKS];
     let mut outs = [0; LINKS];
     let mut times = [None; LINKS];
-    take_caps(net, yard, &mut takes);
+    take_caps(net, &yard.table, &mut takes);
     plan(rule, net, yard, tick.clock, &mut outs);
     shift(yard, net, &takes, &outs, tick, &mut times);
     note_all(yard, net.links(), &outs, &times, rows);
