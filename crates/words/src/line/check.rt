@@ -54,9 +54,8 @@ impl<'a> Line<'a> {
         ensures { Decides result (Empty (words_at self.now.file.now self.now.from) i) }
     {
         let Line { file, from, end } = *self;
-        let starts = i == from || file[i - 1] == b' ';
         let ends = i == end || file[i] == b' ';
-        starts && ends
+        ends && (i == from || file[i - 1] == b' ')
     }
 
     // Where the first empty word would start.
