@@ -62,8 +62,11 @@ impl<'a> Line<'a> {
     pub(crate) fn empty_word(&self) -> Option<usize>
         ensures { MatchOption result (Never (Empty (words_at self.now.file.now self.now.from))) (λ q. First (Empty (words_at self.now.file.now self.now.from)) q) }
     {
-        // Not `..=`: the proof over an inclusive range did not close.
-        (self.from..self.end + 1).find(|&i| self.is_empty_at(i))
+        // The end by itself: so no byte ahead of it is compared with it.
+        let last = self.is_empty_at(self.end).then_some(self.end);
+        (self.from..self.end)
+            .find(|&i| self.is_empty_at(i))
+            .or(last)
     }
 
     // How many words it has.
