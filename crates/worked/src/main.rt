@@ -6,10 +6,12 @@ use merge::Fair;
 use network::{Draft, LINKS, Link, Network};
 use newell::{StepRow, Vehicle};
 use script::{Answer, Call, Outcome, play};
-use std::alloc::{AllocError, Global};
 use std::io;
 
 const SPACE: usize = 1100;
+
+/// As many calls as are made; a list of fixed length takes no memory that may not be there.
+const CALLS: usize = 40;
 
 fn link(from: u8, to: u8, free: u8, wave: u8, capacity: u8, storage: u16) -> Link {
     Link {
@@ -33,25 +35,25 @@ fn three_links() -> Option<Network> {
 
 /// Two bookings, one that is refused, then eight steps, each with a question to the third link, to
 /// the ramp's entrance and to the exit; then questions to a link that is not there.
-fn calls(alloc: Global) -> Result<Vec<Call>, AllocError> {
-    let mut calls = Vec::new(alloc);
-    for (entrance, count) in [(1, 6), (2, 3), (2, 201)] {
-        calls.push(Call::Book {
+fn calls() -> [Call; CALLS] {
+    let mut calls = [Call::Link { number: 4 }; CALLS];
+    for (call, (entrance, count)) in calls.iter_mut().zip([(1, 6), (2, 3), (2, 201)]) {
+        *call = Call::Book {
             entrance,
             exit: 4,
             count,
-        })?;
+        };
     }
-    for _ in 0..8 {
-        calls.push(Call::Step)?;
-        calls.push(Call::Link { number: 3 })?;
-        calls.push(Call::Entrance { node: 2 })?;
-        calls.push(Call::Exit { node: 4 })?;
+    let turn = [
+        Call::Step,
+        Call::Link { number: 3 },
+        Call::Entrance { node: 2 },
+        Call::Exit { node: 4 },
+    ];
+    for calls in calls[3..35].chunks_exact_mut(turn.len()) {
+        calls.copy_from_slice(&turn);
     }
-    for _ in 0..5 {
-        calls.push(Call::Link { number: 4 })?;
-    }
-    Ok(calls)
+    calls
 }
 
 fn show(rt: &HostRuntime, answer: Option<Answer>) -> io::Result<()> {
@@ -66,16 +68,15 @@ fn show(rt: &HostRuntime, answer: Option<Answer>) -> io::Result<()> {
 }
 
 fn main(rt: HostRuntime) -> io::Result<()> {
-    let calls = calls(rt.alloc())?;
     let mut area = [Vehicle::default(); SPACE];
     let mut rows = [StepRow::default(); LINKS];
-    let mut answers = vec![in rt.alloc(); None; calls.len()]?;
+    let mut answers = [None; CALLS];
     let opened = play(
         three_links().unwrap_or(Network::fresh()),
         &mut area,
         &mut Fair,
         &mut rows,
-        &calls,
+        &calls(),
         &mut answers,
     );
     if let Err(refusal) = opened {
