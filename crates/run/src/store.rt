@@ -2,7 +2,7 @@
 use links::Yard;
 use network::Network;
 
-// No invariant of its own: the run has it.
+// No invariant of its own: the run has it, and what reads only network and clock asks nothing.
 #[derive(Drop)]
 pub struct Store<'a> {
     pub net: Network,
