@@ -41,8 +41,7 @@ impl Curve {
         let mut queue = self.queue();
         // The oldest is told to nobody.
         let _ = queue.take(&mut self.slots);
-        // There is room, since the oldest has gone.
-        let _ = queue.push(&mut self.slots, x);
+        queue.push(&mut self.slots, x).unwrap();
         self.oldest = queue.head;
     }
 

@@ -35,7 +35,7 @@ impl<'a> Yard<'a> {
     {
         let mut lane = self.table.lane(side, i);
         // There is room, as the clause asks, so the lane takes it.
-        let _ = lane.push(self.area, v);
+        lane.push(self.area, v).unwrap();
         self.table.put_lane(side, i, lane);
     }
 

@@ -163,6 +163,7 @@ impl<'a> Store<'a> {
     }
 
     // How many are gone at the exit `x`.
+    #[tactic(auto, using(crate::proofs::Booking::exit_place))]
     pub fn gone(&self, x: u16) -> Result<u32, Refusal>
         requires { BuiltIn self.now }
         ensures told { ExitTold (net_of self.now.net) (view_in self.now) x result }

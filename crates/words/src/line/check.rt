@@ -63,7 +63,7 @@ impl<'a> Line<'a> {
     pub(crate) fn empty_word(&self) -> Option<usize>
         ensures { MatchOption result (Never (Empty (words_at self.now.file.now self.now.from))) (λ q. First (Empty (words_at self.now.file.now self.now.from)) q) }
     {
-        // The end by itself: so no byte ahead of it is compared with it.
+        // The end by itself: the search is over the line's bytes alone then, and runs faster.
         let last = self.is_empty_at(self.end).then_some(self.end);
         (self.from..self.end)
             .find(|&i| self.is_empty_at(i))

@@ -5,6 +5,9 @@ use Rattle.links.specs.Readings.{head_of}
 use Rattle.links.proofs.Turning.{Whole, as_held, has_room, next_of}
 use Rattle.links.proofs.curve.Curve.note.Goals as goal
 
+pub unwrap-requires : goal.unwrap-requires
+unwrap-requires c = let q = c.queue-queue.ensures in let t = c.take.ensures in c.push.ensures.told ∙ has_room c.queue-queue.result c.take.new.self q.len q.size t.len t.size
+
 pub returns : goal.returns
 returns c =
     let q = c.queue-queue.ensures in

@@ -16,6 +16,11 @@ push-requires c =
     let e = c.lane-lane.ensures in
     record { room = placed_of y k l b e; sound = sound_of y k l b e }
 
+pub unwrap-requires : goal.unwrap-requires
+unwrap-requires c =
+    let p = c.lane-lane.result in
+    c.push.ensures.told ∙ lt-ltb p.len p.size (has_room c.args.self.now (lane_no c.args.side c.args.i) p (lane_few c.args.side c.args.i c.requires.here) c.lane-lane.ensures c.requires.room)
+
 pub invariant_of-self : goal.invariant_of-self
 invariant_of-self c =
     let y = c.args.self.now in

@@ -5,11 +5,7 @@ use Rattle.newell.specs.History.{ask_exit, told}
 use Rattle.newell.specs.Now.{Carries}
 use Rattle.newell.proofs.Telling.{no_exit, exit_tells}
 use Rattle.run.specs.Stores.{view_in}
-use Rattle.run.proofs.Booking.{exit_place}
 use Rattle.run.proofs.store.Store.gone.Goals as goal
-
-pub off-requires-clause-here : goal.off-requires-clause-here
-off-requires-clause-here c = exit_place c.args.self.now.net c.args.x c.in_ok-i.i c.in_ok-i.ensures
 
 pub returns-in_err-i-clause-carries : goal.returns-in_err-i-clause-carries
 returns-in_err-i-clause-carries c =
