@@ -40,6 +40,10 @@ round_once s head w l = ⊎_elim
     subst (λ k. held s k 64 ≡ held s (k % 64) 64) (sym e) (ap (take 64) (ap₂ ◌++◌ (drop_all 64 s (omega arith)) (take_all 64 s (omega arith)) ∙ sym (append-nil s))))
     (cases_lt head 64)
 
+-- so a curve whose oldest reading lies in its ring is read from there
+pub readings_from : (c : Curve) → c.oldest ≤ 64 → readings c ≡ held (part_of 0 64 c.slots) c.oldest 64
+readings_from c inside = sym (round_once (part_of 0 64 c.slots) c.oldest (length_part c.slots 0 64 (omega (arith, c.wide))) inside)
+
 head_inside : (c : Curve) → head_of c ≤ 64
 head_inside c = omega arith
 
@@ -71,7 +75,7 @@ next_of c c' x inside come = record {
 }
   where
     list : readings c' ≡ rest (readings c) ++ x ∷ []
-    list = sym (round_once (part_of 0 64 c'.slots) c'.oldest (length_part c'.slots 0 64 (omega (arith, c'.wide))) inside) ∙ come
+    list = readings_from c' inside ∙ come
 
     n : length (rest (readings c)) ≡ 63
     n = length_rest (readings c) (length_readings c)

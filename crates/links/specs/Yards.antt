@@ -4,6 +4,7 @@ use Rattle.line.specs.Parts.{queue}
 use Rattle.line.specs.Spots.{Spots, spots_in}
 use Rattle.newell.specs.declared.records.Vehicle.{Vehicle}
 use Rattle.links.specs.declared.records.Yard.{Yard}
+use Rattle.links.specs.Counts.{reading_count}
 use Rattle.links.specs.Readings.{Full}
 use Rattle.links.specs.Tables.{table_size, lane_count, lane_at, record_at, Gauge, gauge_in, Noted, Lies}
 
@@ -51,6 +52,11 @@ pub record AllFull (y : Yard) : Type 0 where
   pub whole : length y.table.links ≡ table_size
   pub ons : (i : ℕ) → i < table_size → Full (gauge_of y i).ons
   pub offs : (i : ℕ) → i < table_size → Full (gauge_of y i).offs
+
+-- the oldest reading of each curve lies in the curve's ring of slots
+pub record Inside (y : Yard) : Type 0 where
+  pub ons : (i : ℕ) → i < table_size → (gauge_of y i).ons.oldest ≤ reading_count
+  pub offs : (i : ℕ) → i < table_size → (gauge_of y i).offs.oldest ≤ reading_count
 
 -- the readings of the link i are noted; those of the others and all lanes are the same
 pub record NotedAt (y : Yard) (i on off : ℕ) (time : Option ℕ) (y' : Yard) : Type 0 where

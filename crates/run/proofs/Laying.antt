@@ -18,7 +18,7 @@ use Rattle.links.specs.declared.records.Table.{Table}
 use Rattle.links.specs.declared.records.Yard.{Yard}
 use Rattle.links.proofs.Keeping.{laid_of, all_full}
 use Rattle.links.specs.Readings.{back}
-use Rattle.links.specs.Yards.{holds, size_of, gauge_of}
+use Rattle.links.specs.Yards.{holds, size_of, gauge_of, Inside}
 use Rattle.flow.specs.Flows.{exits}
 use Rattle.flow.proofs.Pulling.{exits_nil}
 use Rattle.plan.specs.View.{view_of}
@@ -159,6 +159,12 @@ module _ (net : Net) (y : Yard) (few : net.links ≤ 48) (new : Fresh net y.tabl
     laid = laid_of y;
     sizes = sizes;
     waits = waits;
+  }
+
+  pub inside : Inside y
+  inside = record {
+    ons = λ i h. subst (λ (g : Gauge). g.ons.oldest ≤ 64) (sym (gauge_is i h)) (omega arith);
+    offs = λ i h. subst (λ (g : Gauge). g.offs.oldest ≤ 64) (sym (gauge_is i h)) (omega arith);
   }
 
   pub opened : Opened net (view_of y 0)

@@ -59,7 +59,7 @@ map_drop : (n : ℕ) (vs : List Vehicle) → drop n (exits vs) ≡ exits (drop n
 unfolding exits
 map_drop n vs = drop-map (λ v. v.exit) n vs
 
-blank_row : StepRow
+pub blank_row : StepRow
 blank_row = record { came = 0; left = 0; travel = None }
 
 -- what stays built where the sizes stay

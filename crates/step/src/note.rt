@@ -44,6 +44,7 @@ pub fn note_all(
     requires small { (i : ℕ) → i < count → (length (holds yard.old i) < 2 ^ 32) × (offs yard.old i 0 + slice_index outs.now i + length (holds yard.old i) < 2 ^ 32) }
     requires more { (i : ℕ) → i < count → ons yard.old i 0 ≤ offs yard.old i 0 + slice_index outs.now i + length (holds yard.old i) }
     ensures written { (i : ℕ) (d : Line) → i < count → Written (gauge_of yard.old i) (slice_index outs.now i) (length (holds yard.old i)) (slice_index_or times.now i None) (slice_index_or rows.new i d) (gauge_of yard.new i) }
+    ensures others { (i : ℕ) → count ≤ i → gauge_of yard.new i ≡ gauge_of yard.old i }
     ensures beyond { (i : ℕ) (d : Line) → count ≤ i → slice_index_or rows.new i d ≡ slice_index_or rows.old i d }
     ensures still { Still yard.old yard.new }
 {
