@@ -9,7 +9,7 @@ use Rattle.links.specs.declared.records.Yard.{Yard}
 use Rattle.line.specs.declared.shape.Part.{Part}
 use Rattle.line.specs.Parts.{Sound}
 use Rattle.links.specs.Tables.{lane_at, Gauge, Lies, Marked}
-use Rattle.links.specs.Yards.{gauge_of, Laid, AllFull, Inside}
+use Rattle.links.specs.Yards.{gauge_of, Laid, AllFull, InRing}
 use Rattle.links.proofs.Turning.{full_of}
 
 pub lies_prop : (wide : ℕ) (t : Table) → IsProp (Lies wide t)
@@ -27,18 +27,18 @@ pub all_full : (y : Yard) → AllFull y
 all_full y = record { whole = (laid_of y).whole; ons = λ i l. full_of _; offs = λ i l. full_of _ }
 
 -- the oldest stay in their rings where no reading is noted,
-pub inside_still : (y y' : Yard) → ((i : ℕ) → gauge_of y' i ≡ gauge_of y i) → Inside y → Inside y'
-inside_still y y' same inside = record {
-  ons = λ i h. subst (λ (g : Gauge). g.ons.oldest ≤ 64) (sym (same i)) (inside.ons i h);
-  offs = λ i h. subst (λ (g : Gauge). g.offs.oldest ≤ 64) (sym (same i)) (inside.offs i h);
+pub ring_still : (y y' : Yard) → ((i : ℕ) → gauge_of y' i ≡ gauge_of y i) → InRing y → InRing y'
+ring_still y y' same ring = record {
+  ons = λ i h. subst (λ (g : Gauge). g.ons.oldest ≤ 64) (sym (same i)) (ring.ons i h);
+  offs = λ i h. subst (λ (g : Gauge). g.offs.oldest ≤ 64) (sym (same i)) (ring.offs i h);
 }
 
 -- and where those of the links below n are
-pub inside_noted : (y y' : Yard) (n : ℕ) → ((i : ℕ) → i < n → ((gauge_of y' i).ons.oldest ≤ 64) × ((gauge_of y' i).offs.oldest ≤ 64))
-    → ((i : ℕ) → n ≤ i → gauge_of y' i ≡ gauge_of y i) → Inside y → Inside y'
-inside_noted y y' n noted others inside = record {
-  ons = λ i h. ⊎_elim (λ (l : i < n). (noted i l).0) (λ (l : n ≤ i). subst (λ (g : Gauge). g.ons.oldest ≤ 64) (sym (others i l)) (inside.ons i h)) (cases_lt i n);
-  offs = λ i h. ⊎_elim (λ (l : i < n). (noted i l).1) (λ (l : n ≤ i). subst (λ (g : Gauge). g.offs.oldest ≤ 64) (sym (others i l)) (inside.offs i h)) (cases_lt i n);
+pub ring_noted : (y y' : Yard) (n : ℕ) → ((i : ℕ) → i < n → ((gauge_of y' i).ons.oldest ≤ 64) × ((gauge_of y' i).offs.oldest ≤ 64))
+    → ((i : ℕ) → n ≤ i → gauge_of y' i ≡ gauge_of y i) → InRing y → InRing y'
+ring_noted y y' n noted others ring = record {
+  ons = λ i h. ⊎_elim (λ (l : i < n). (noted i l).0) (λ (l : n ≤ i). subst (λ (g : Gauge). g.ons.oldest ≤ 64) (sym (others i l)) (ring.ons i h)) (cases_lt i n);
+  offs = λ i h. ⊎_elim (λ (l : i < n). (noted i l).1) (λ (l : n ≤ i). subst (λ (g : Gauge). g.offs.oldest ≤ 64) (sym (others i l)) (ring.offs i h)) (cases_lt i n);
 }
 
 -- lanes that lie where they lay

@@ -53,8 +53,8 @@ pub record AllFull (y : Yard) : Type 0 where
   pub ons : (i : ℕ) → i < table_size → Full (gauge_of y i).ons
   pub offs : (i : ℕ) → i < table_size → Full (gauge_of y i).offs
 
--- the oldest reading of each curve lies in the curve's ring of slots
-pub record Inside (y : Yard) : Type 0 where
+-- the oldest reading of each curve lies in the curve's ring of slots, whose end is its beginning
+pub record InRing (y : Yard) : Type 0 where
   pub ons : (i : ℕ) → i < table_size → (gauge_of y i).ons.oldest ≤ reading_count
   pub offs : (i : ℕ) → i < table_size → (gauge_of y i).offs.oldest ≤ reading_count
 

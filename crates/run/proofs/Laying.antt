@@ -18,7 +18,7 @@ use Rattle.links.specs.declared.records.Table.{Table}
 use Rattle.links.specs.declared.records.Yard.{Yard}
 use Rattle.links.proofs.Keeping.{laid_of, all_full}
 use Rattle.links.specs.Readings.{back}
-use Rattle.links.specs.Yards.{holds, size_of, gauge_of, Inside}
+use Rattle.links.specs.Yards.{holds, size_of, gauge_of, InRing}
 use Rattle.flow.specs.Flows.{exits}
 use Rattle.flow.proofs.Pulling.{exits_nil}
 use Rattle.plan.specs.View.{view_of}
@@ -161,8 +161,8 @@ module _ (net : Net) (y : Yard) (few : net.links ≤ 48) (new : Fresh net y.tabl
     waits = waits;
   }
 
-  pub inside : Inside y
-  inside = record {
+  pub ring : InRing y
+  ring = record {
     ons = λ i h. subst (λ (g : Gauge). g.ons.oldest ≤ 64) (sym (gauge_is i h)) (omega arith);
     offs = λ i h. subst (λ (g : Gauge). g.offs.oldest ≤ 64) (sym (gauge_is i h)) (omega arith);
   }

@@ -1,6 +1,6 @@
 // What a store does for the calls of a run.
 ghost use Rattle.std.specs.Prelude.{◌≡◌, ◌+◌, ◌<◌, ◌≤◌, true, false, ◌⊎◌, length};
-ghost use Rattle.links.specs.Yards.{holds, size_of, Inside};
+ghost use Rattle.links.specs.Yards.{holds, size_of, InRing};
 ghost use Rattle.network.specs.Net.{Entrance as EntranceOf, Exit as ExitOf};
 ghost use Rattle.network.specs.Nets.{net_of};
 ghost use Rattle.newell.specs.History.{ask_entrance as asking_in, ask_exit as asking_out};
@@ -78,7 +78,7 @@ impl<'a> Store<'a> {
         ensures clock { self.new.clock ≡ self.old.clock + 1 }
         ensures same { self.new.yard.area.ghost_name ≡ self.old.yard.area.ghost_name }
         ensures built { BuiltIn self.new }
-        ensures inside { Inside self.old.yard → Inside self.new.yard }
+        ensures ring { InRing self.old.yard → InRing self.new.yard }
         ensures net { self.new.net ≡ self.old.net }
     {
         let tick = Tick::new(self.clock);
@@ -115,7 +115,7 @@ impl<'a> Store<'a> {
         ensures area { AreaBooked self.old.yard j x n self.new.yard }
         ensures same { self.new.yard.area.ghost_name ≡ self.old.yard.area.ghost_name }
         ensures built { BuiltIn self.new }
-        ensures inside { Inside self.old.yard → Inside self.new.yard }
+        ensures ring { InRing self.old.yard → InRing self.new.yard }
         ensures net { self.new.net ≡ self.old.net }
     {
         queue_up(&mut self.yard, j, x, n);

@@ -1,5 +1,5 @@
 // The run's record and its invariant.
-ghost use Rattle.links.specs.Yards.{Inside};
+ghost use Rattle.links.specs.Yards.{InRing};
 ghost use Rattle.network.specs.Nets.{net_of};
 ghost use Rattle.newell.specs.Now.{Reached};
 ghost use Rattle.run.specs.Stores.{view_in, BuiltIn};
@@ -17,6 +17,6 @@ pub mod stepping;
 pub struct Run<'a> {
     store: Store<'a>,
     ghost built: { BuiltIn store },
-    ghost inside: { Inside store.yard },
+    ghost ring: { InRing store.yard },
     ghost reached: { Reached (net_of store.net) (view_in store) },
 }

@@ -1,6 +1,6 @@
 // The step itself.
 ghost use Rattle.std.specs.Prelude.{◌≡◌, ◌<◌, ◌≤◌, length};
-ghost use Rattle.links.specs.Yards.{Inside};
+ghost use Rattle.links.specs.Yards.{InRing};
 ghost use Rattle.network.specs.Nets.{net_of};
 ghost use Rattle.newell.specs.Now.{Reached};
 ghost use Rattle.plan.specs.View.{view_of};
@@ -31,7 +31,7 @@ pub fn advance<R: MergeRule>(
     ensures advanced { Advanced (net_of net.now) tick.clock yard.old (R.MergeRule.meaning rule.old) rows.old yard.new (R.MergeRule.meaning rule.new) rows.new }
     ensures same { yard.new.area.ghost_name ≡ yard.old.area.ghost_name }
     ensures built { Built (net_of net.now) yard.new }
-    ensures inside { Inside yard.old → Inside yard.new }
+    ensures ring { InRing yard.old → InRing yard.new }
 {
     // Three arrays and not one of records: each phase is lent for writing only the one that it fills.
     let mut takes = [0; LINKS];

@@ -1,6 +1,6 @@
 use Rattle.std.proofs.Common.{get_or, None, ◌∙◌, arith}
 use Rattle.network.specs.Nets.{net_of}
-use Rattle.links.proofs.Keeping.{inside_still, inside_noted}
+use Rattle.links.proofs.Keeping.{ring_still, ring_noted}
 use Rattle.step.proofs.Stepping.{blank_row, readable, plannable, shiftable, after_more, after_small, advanced, built_on}
 use Rattle.step.proofs.advance.advance.Goals as goal
 
@@ -33,8 +33,8 @@ returns-clause-advanced g c = advanced c.args.net.now c.args.yard.now c.args.tic
 pub returns-clause-built : goal.returns-clause-built
 returns-clause-built g c = built_on (net_of c.args.net.now) c.args.yard.now c.note_all.new.yard c.requires.built (λ l. c.note_all.ensures.still.sizes l ∙ c.shift.ensures.shifted.sizes l)
 
-pub returns-clause-inside : goal.returns-clause-inside
-returns-clause-inside g c = λ h.
-    inside_noted c.shift.new.yard c.note_all.new.yard c.links.result
+pub returns-clause-ring : goal.returns-clause-ring
+returns-clause-ring g c = λ h.
+    ring_noted c.shift.new.yard c.note_all.new.yard c.links.result
     (λ i l. let w = c.note_all.ensures.written i blank_row l in (w.on.inside, w.off.inside)) c.note_all.ensures.others
-    (inside_still c.args.yard.now c.shift.new.yard c.shift.ensures.shifted.gauges h)
+    (ring_still c.args.yard.now c.shift.new.yard c.shift.ensures.shifted.gauges h)

@@ -43,7 +43,7 @@ invariant_of-self c =
     let s' = c.queue_up.new.self in
     record {
       built = c.queue_up.ensures.built;
-      inside = c.queue_up.ensures.inside c.args.self.now.inside;
+      ring = c.queue_up.ensures.ring c.args.self.now.ring;
       reached = subst (λ (n : Network). Reached (net_of n) (view_in s')) (sym c.queue_up.ensures.net)
           (reached_on (net_of s.net) (view_in s) _ (view_in s') (booked (goal.at.invariant_of-self c).After-queue_up) c.args.self.now.reached);
     }

@@ -40,7 +40,7 @@ invariant_of-self g c =
     let s' = c.advance.new.self in
     record {
       built = c.advance.ensures.built;
-      inside = c.advance.ensures.inside c.args.self.now.inside;
+      ring = c.advance.ensures.ring c.args.self.now.ring;
       reached = subst (λ (n : Network). Reached (net_of n) (view_in s')) (sym c.advance.ensures.net)
           (reached_on (net_of s.net) (view_in s) _ (view_in s') (stepped g (goal.at.invariant_of-self g c).After-advance) c.args.self.now.reached);
     }
