@@ -26,20 +26,17 @@ laid_of y = ∥∥₁_elim y.laid (lies_prop (length y.area.now) y.table) (λ l.
 pub all_full : (y : Yard) → AllFull y
 all_full y = record { whole = (laid_of y).whole; ons = λ i l. full_of _; offs = λ i l. full_of _ }
 
--- the oldest stay in their rings where no reading is noted,
-pub ring_still : (y y' : Yard) → ((i : ℕ) → gauge_of y' i ≡ gauge_of y i) → InRing y → InRing y'
-ring_still y y' same ring = record {
-  ons = λ i h. subst (λ (g : Gauge). g.ons.oldest ≤ 64) (sym (same i)) (ring.ons i h);
-  offs = λ i h. subst (λ (g : Gauge). g.offs.oldest ≤ 64) (sym (same i)) (ring.offs i h);
-}
-
--- and where those of the links below n are
+-- the oldest stay in their rings where the readings of the links below n are noted, and those of the others are as they were
 pub ring_noted : (y y' : Yard) (n : ℕ) → ((i : ℕ) → i < n → ((gauge_of y' i).ons.oldest ≤ 64) × ((gauge_of y' i).offs.oldest ≤ 64))
     → ((i : ℕ) → n ≤ i → gauge_of y' i ≡ gauge_of y i) → InRing y → InRing y'
 ring_noted y y' n noted others ring = record {
   ons = λ i h. ⊎_elim (λ (l : i < n). (noted i l).0) (λ (l : n ≤ i). subst (λ (g : Gauge). g.ons.oldest ≤ 64) (sym (others i l)) (ring.ons i h)) (cases_lt i n);
   offs = λ i h. ⊎_elim (λ (l : i < n). (noted i l).1) (λ (l : n ≤ i). subst (λ (g : Gauge). g.offs.oldest ≤ 64) (sym (others i l)) (ring.offs i h)) (cases_lt i n);
 }
+
+-- so they do where none is noted
+pub ring_still : (y y' : Yard) → ((i : ℕ) → gauge_of y' i ≡ gauge_of y i) → InRing y → InRing y'
+ring_still y y' same = ring_noted y y' 0 (λ i l. absurd (omega arith)) (λ i l. same i)
 
 -- lanes that lie where they lay
 pub lies_on : (w w' : ℕ) (t t' : Table) → Lies w t → w' ≡ w → length t'.links ≡ length t.links

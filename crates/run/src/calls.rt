@@ -1,6 +1,6 @@
 // What a store does for the calls of a run.
-ghost use Rattle.std.specs.Prelude.{◌≡◌, ◌+◌, ◌<◌, ◌≤◌, true, false, ◌⊎◌, length};
-ghost use Rattle.links.specs.Yards.{holds, size_of, InRing};
+ghost use Rattle.std.specs.Prelude.{◌≡◌, ℕ, ◌+◌, ◌<◌, ◌≤◌, true, false, ◌⊎◌, length};
+ghost use Rattle.links.specs.Yards.{holds, size_of, gauge_of, InRing};
 ghost use Rattle.network.specs.Net.{Entrance as EntranceOf, Exit as ExitOf};
 ghost use Rattle.network.specs.Nets.{net_of};
 ghost use Rattle.newell.specs.History.{ask_entrance as asking_in, ask_exit as asking_out};
@@ -79,6 +79,7 @@ impl<'a> Store<'a> {
         ensures same { self.new.yard.area.ghost_name ≡ self.old.yard.area.ghost_name }
         ensures built { BuiltIn self.new }
         ensures ring { InRing self.old.yard → InRing self.new.yard }
+        ensures idle { (i : ℕ) → (net_of self.old.net).links ≤ i → gauge_of self.new.yard i ≡ gauge_of self.old.yard i }
         ensures net { self.new.net ≡ self.old.net }
     {
         let tick = Tick::new(self.clock);
@@ -115,7 +116,7 @@ impl<'a> Store<'a> {
         ensures area { AreaBooked self.old.yard j x n self.new.yard }
         ensures same { self.new.yard.area.ghost_name ≡ self.old.yard.area.ghost_name }
         ensures built { BuiltIn self.new }
-        ensures ring { InRing self.old.yard → InRing self.new.yard }
+        ensures gauges { (i : ℕ) → gauge_of self.new.yard i ≡ gauge_of self.old.yard i }
         ensures net { self.new.net ≡ self.old.net }
     {
         queue_up(&mut self.yard, j, x, n);

@@ -1,6 +1,6 @@
 // The step itself.
-ghost use Rattle.std.specs.Prelude.{◌≡◌, ◌<◌, ◌≤◌, length};
-ghost use Rattle.links.specs.Yards.{InRing};
+ghost use Rattle.std.specs.Prelude.{◌≡◌, ℕ, ◌<◌, ◌≤◌, length};
+ghost use Rattle.links.specs.Yards.{gauge_of, InRing};
 ghost use Rattle.network.specs.Nets.{net_of};
 ghost use Rattle.newell.specs.Now.{Reached};
 ghost use Rattle.plan.specs.View.{view_of};
@@ -32,6 +32,7 @@ pub fn advance<R: MergeRule>(
     ensures same { yard.new.area.ghost_name ≡ yard.old.area.ghost_name }
     ensures built { Built (net_of net.now) yard.new }
     ensures ring { InRing yard.old → InRing yard.new }
+    ensures idle { (i : ℕ) → (net_of net.now).links ≤ i → gauge_of yard.new i ≡ gauge_of yard.old i }
 {
     // Three arrays and not one of records: each phase is lent for writing only the one that it fills.
     let mut takes = [0; LINKS];

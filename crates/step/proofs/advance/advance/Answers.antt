@@ -38,3 +38,6 @@ returns-clause-ring g c = λ h.
     ring_noted c.shift.new.yard c.note_all.new.yard c.links.result
     (λ i l. let w = c.note_all.ensures.written i blank_row l in (w.on.inside, w.off.inside)) c.note_all.ensures.others
     (ring_still c.args.yard.now c.shift.new.yard c.shift.ensures.shifted.gauges h)
+
+pub returns-clause-idle : goal.returns-clause-idle
+returns-clause-idle g c = λ i l. c.note_all.ensures.others i (omega (arith, l, c.links.ensures)) ∙ c.shift.ensures.shifted.gauges i

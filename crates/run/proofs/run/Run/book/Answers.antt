@@ -7,6 +7,7 @@ use Rattle.network.specs.Nets.{net_of}
 use Rattle.network.proofs.Rights.{right_of}
 use Rattle.network.proofs.Sorts.{in₁, off₁}
 use Rattle.links.specs.Yards.{holds}
+use Rattle.links.proofs.Keeping.{ring_still}
 use Rattle.flow.proofs.Pulling.{exits_length}
 use Rattle.run.specs.Stores.{view_in}
 use Rattle.run.proofs.Booking.{booked_on}
@@ -43,7 +44,7 @@ invariant_of-self c =
     let s' = c.queue_up.new.self in
     record {
       built = c.queue_up.ensures.built;
-      ring = c.queue_up.ensures.ring c.args.self.now.ring;
+      ring = ring_still s.yard s'.yard c.queue_up.ensures.gauges c.args.self.now.ring;
       reached = subst (λ (n : Network). Reached (net_of n) (view_in s')) (sym c.queue_up.ensures.net)
           (reached_on (net_of s.net) (view_in s) _ (view_in s') (booked (goal.at.invariant_of-self c).After-queue_up) c.args.self.now.reached);
     }

@@ -1,7 +1,6 @@
 use Rattle.std.proofs.Common.{◌+◌, arith}
 use Rattle.network.specs.Nets.{net_of}
 use Rattle.network.proofs.Rights.{right_of}
-use Rattle.links.proofs.Keeping.{ring_still}
 use Rattle.run.proofs.Booking.{queued, built_still}
 use Rattle.run.proofs.store.Store.queue_up.Goals as goal
 
@@ -16,6 +15,3 @@ returns-clause-queued c =
 
 pub returns-clause-built : goal.returns-clause-built
 returns-clause-built c = let s = c.args.self.now in built_still (net_of s.net) s.yard c.queue_up.new.yard (48 + c.args.j) _ c.requires.built c.queue_up.ensures.put
-
-pub returns-clause-ring : goal.returns-clause-ring
-returns-clause-ring c = ring_still c.args.self.now.yard c.queue_up.new.yard c.queue_up.ensures.put.gauges
